@@ -1,0 +1,2 @@
+pub mod Quorum
+pub mod Numbering

@@ -1,0 +1,5 @@
+pub mod Ranking
+pub mod Rows
+pub mod Wheel
+pub mod SplitMix
+pub mod Shuffle

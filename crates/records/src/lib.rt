@@ -1,0 +1,49 @@
+//! What blocks carry: record types, and the two that a joint gas record uses.
+ghost use mathlib.Core.Path.{_≡_};
+ghost use Rattle.records.specs.Kind.{Kind, Idle-follows};
+
+pub mod heat;
+pub mod turn;
+
+/// A record type. `kind` is its meaning; asking changes nothing, and the answer is always the meaning's.
+pub trait Record: Copy {
+    ghost kind: { Kind Self };
+
+    law idle_follows: { Idle-follows kind };
+
+    /// The record of block 0.
+    fn first() -> Self
+        ensures { λ r. ⌜ r ≡ kind .first ⌝ };
+
+    /// Whether `self` may be posted on a block whose record is `parent`.
+    fn follows(&self, parent: &Self) -> bool
+        ensures { λ r. ⌜ r ≡ kind .follows (now (self .entry)) (now (parent .entry)) ⌝ };
+
+    /// What is posted on `self` when there is nothing to say.
+    fn idle(&self) -> Self
+        ensures { λ r. ⌜ r ≡ kind .idle (now (self .entry)) ⌝ };
+}
+
+#[cfg(test)]
+mod tests {
+    use crate::Record;
+    use crate::heat::Heat;
+    use crate::heat::HeatRecord;
+    use crate::turn::Turn;
+    use crate::turn::TurnRecord;
+    use std::test::*;
+
+    #[test]
+    fn heat_totals_never_wrap() -> Result<(), Fail> {
+        let full = Heat { volume: 0, calorific: 0, total: u64::MAX };
+        check(!Heat { volume: 1, calorific: 1, total: 0 }.follows(&full))?;
+        check(full.idle().follows(&full))
+    }
+
+    #[test]
+    fn turns_never_wrap() -> Result<(), Fail> {
+        let last = Turn { holder: 2, turn: u32::MAX };
+        check(!Turn { holder: 3, turn: 0 }.follows(&last))?;
+        check(last.follows(&last))
+    }
+}
