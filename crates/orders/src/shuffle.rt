@@ -1,11 +1,12 @@
 //! The Shuffle: seats lead in an order drawn by lot.
 ghost use mathlib.Core.Path.{_≡_};
-ghost use Prim.Native.Nat.{ℕ, _+_, _%_, _<_, _≤_};
-ghost use lib.ListN.{getD, take};
+ghost use Prim.Native.Nat.{_+_, _%_, _<_, _≤_};
+ghost use lib.ListN.{take};
 ghost use Rattle.orders.specs.Ranking.{seat-count};
 ghost use Rattle.orders.specs.SplitMix.{advanced, drawn};
 ghost use Rattle.orders.specs.Shuffle.{arrangement, exchanged, place, shuffle-ranking};
 use crate::Beacon;
+use crate::search::first_place;
 use crate::splitmix::SplitMix64;
 
 /// In each round the seats stand in an order that SplitMix64 draws. It covers 65,535 rounds.
@@ -53,27 +54,12 @@ fn arrange(start: u64, n: u8) -> [u8; 16]
     places
 }
 
-// The first of the n places that holds the seat, or n.
-fn find(places: &[u8; 16], n: u8, seat: u8) -> u8
-    requires { ⌜ n ≤ 16 ⌝ }
-    ensures within { λ r. ⌜ r ≤ n ⌝ }
-    ensures before { λ r. ⌜ ((k : ℕ) → k < r → getD (now (places .entry)) k 0 ≡ seat → ⊥) ⌝ }
-    ensures found { λ r. ⌜ (r < n → getD (now (places .entry)) r 0 ≡ seat) ⌝ }
-{
-    for k in 0..n {
-        if places[k as usize] == seat {
-            return k;
-        }
-    }
-    n
-}
-
 // The place of a seat among the first n.
 fn place_of(places: &[u8; 16], n: u8, seat: u8) -> u8
     requires { ⌜ n ≤ 16 ⌝ }
     ensures { λ r. ⌜ r ≡ place seat (take n (now (places .entry))) ⌝ }
 {
-    find(places, n, seat)
+    first_place(places, n, seat)
 }
 
 pub impl Beacon for Shuffle as ShuffleBeacon {

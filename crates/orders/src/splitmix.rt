@@ -28,21 +28,3 @@ impl SplitMix64 {
         c ^ (c >> 31)
     }
 }
-
-#[cfg(test)]
-mod tests {
-    use crate::splitmix::SplitMix64;
-    use std::test::*;
-
-    #[test]
-    fn published_vectors() -> Result<(), Fail> {
-        let mut g = SplitMix64::new(1234567);
-        check_eq(g.draw(), 6457827717110365317)?;
-        check_eq(g.draw(), 3203168211198807973)?;
-        check_eq(g.draw(), 9817491932198370423)?;
-        check_eq(g.draw(), 4593380528125082431)?;
-        check_eq(g.draw(), 16408922859458223821)?;
-        let mut z = SplitMix64::new(0);
-        check_eq(z.draw(), 16294208416658607535)
-    }
-}
