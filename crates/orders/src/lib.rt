@@ -5,9 +5,7 @@ ghost use lib.ListN.{getD};
 ghost use Rattle.orders.specs.Ranking.{Order, Ranking, Lawful, rank-answer};
 ghost use Rattle.orders.specs.Rows.{order-row, seats-answer};
 
-mod search;
-pub mod shuffle;
-pub mod splitmix;
+pub mod search;
 pub mod wheel;
 
 use crate::search::first_place;

@@ -7,9 +7,9 @@ use Rattle.std.specs.declared.result.Result.{Result}
 use Rattle.std.specs.declared.result.Result.the-variants.{Ok, Err}
 use Rattle.numbers.specs.Quorum.{majority-of}
 use Rattle.numbers.specs.Numbering.{number-of}
-use Rattle.orders.specs.SplitMix.{draws}
+use Rattle.shuffle.specs.SplitMix.{draws}
 use Rattle.orders.specs.Wheel.{wheel-rank}
-use Rattle.orders.specs.Shuffle.{shuffle-rank}
+use Rattle.shuffle.specs.Shuffle.{shuffle-rank}
 use Rattle.records.specs.Heat.{heat-follows, heat-kind}
 use Rattle.records.specs.declared.heat.Heat.{Heat}
 use Rattle.records.specs.Turn.{turn-follows}

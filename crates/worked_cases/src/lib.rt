@@ -20,9 +20,9 @@ mod tests {
     use orders::Beacon;
     use orders::ranks_of;
     use orders::seats_by_rank;
-    use orders::shuffle::Shuffle;
-    use orders::shuffle::ShuffleBeacon;
-    use orders::splitmix::SplitMix64;
+    use shuffle::Shuffle;
+    use shuffle::ShuffleBeacon;
+    use shuffle::splitmix::SplitMix64;
     use orders::wheel::Wheel;
     use orders::wheel::WheelBeacon;
     use records::Record;

@@ -1,7 +1,7 @@
 use mathlib.Core.Path.{refl}
 use lib.Count.{ones}
-use Rattle.orders.specs.SplitMix.{draws}
-use Rattle.orders.specs.Shuffle.{shuffled, place}
+use Rattle.shuffle.specs.SplitMix.{draws}
+use Rattle.shuffle.specs.Shuffle.{shuffled, place}
 use Rattle.orders.specs.Rows.{numbers}
 use Rattle.worked_cases.proofs.worked_cases.Needs as need
 

@@ -1,6 +1,6 @@
 //! The random source of the Shuffle.
 ghost use mathlib.Core.Path.{_≡_};
-ghost use Rattle.orders.specs.SplitMix.{advanced, drawn};
+ghost use Rattle.shuffle.specs.SplitMix.{advanced, drawn};
 
 /// Vigna's public generator of 64-bit numbers.
 #[derive(Clone, Copy)]

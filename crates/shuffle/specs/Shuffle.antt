@@ -5,9 +5,9 @@ use Prim.Native.Nat.{ℕ, zero, suc, _+_, _-_, _%_}
 use lib.Dec.{eqb}
 use lib.Bits.{bitXor}
 use lib.ListN.{getD, set}
-use Rattle.orders.specs.SplitMix.{draws}
+use Rattle.shuffle.specs.SplitMix.{draws}
 use Rattle.orders.specs.Ranking.{Ranking, seat-count}
 use Rattle.orders.specs.Rows.{numbers}
 
 -- places i and j exchanged
 abbrev pub exchanged : ℕ → ℕ → List ℕ → List ℕ

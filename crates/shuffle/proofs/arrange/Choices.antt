@@ -1,9 +1,9 @@
 use Prim.Native.Nat.{ℕ, _-_, _≤_}
 use mathlib.Core.Path.{_≡_}
 use lib.ListN.{length, take}
-use Rattle.orders.specs.SplitMix.{draws}
-use Rattle.orders.specs.Shuffle.{arrangement, shuffled}
-use Rattle.orders.proofs.shuffle.arrange.Given as given
+use Rattle.shuffle.specs.SplitMix.{draws}
+use Rattle.shuffle.specs.Shuffle.{arrangement, shuffled}
+use Rattle.shuffle.proofs.arrange.Given as given
 
 abbrev pub Inv-loop-m : given.InvT-loop-m
 Inv-loop-m l =

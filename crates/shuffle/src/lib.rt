@@ -2,12 +2,14 @@
 ghost use mathlib.Core.Path.{_≡_};
 ghost use Prim.Native.Nat.{_+_, _%_, _<_, _≤_};
 ghost use lib.ListN.{take};
 ghost use Rattle.orders.specs.Ranking.{seat-count};
-ghost use Rattle.orders.specs.SplitMix.{advanced, drawn};
-ghost use Rattle.orders.specs.Shuffle.{arrangement, exchanged, place, shuffle-ranking};
-use crate::Beacon;
-use crate::search::first_place;
+ghost use Rattle.shuffle.specs.SplitMix.{advanced, drawn};
+ghost use Rattle.shuffle.specs.Shuffle.{arrangement, exchanged, place, shuffle-ranking};
+use orders::Beacon;
+use orders::search::first_place;
 use crate::splitmix::SplitMix64;
+
+pub mod splitmix;
 
 /// In each round the seats stand in an order that SplitMix64 draws. It covers 65,535 rounds.
 #[derive(Clone, Copy)]

@@ -1,6 +1,6 @@
 use lib.Bits.{bitXor}
-use Rattle.orders.proofs.ShuffleOrder.{shuffle-order}
-use Rattle.orders.proofs.shuffle.ShuffleBeacon.the-impl.Needs as need
+use Rattle.shuffle.proofs.ShuffleOrder.{shuffle-order}
+use Rattle.shuffle.proofs.ShuffleBeacon.the-impl.Needs as need
 
 pub lawful-law : need.lawful-law
 lawful-law b = record {

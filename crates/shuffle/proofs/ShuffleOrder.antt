@@ -11,11 +11,11 @@ use lib.Dec.{eqb}
 use lib.ListN.{length, getD, set, take, length-set}
 use lib.Seq.{length-take-le, getD-set-same, getD-set-other, take-set-lt, getD-take}
 use Rattle.std.proofs.shelf.Tests.{cases-lt, cases-eq, eq-eqb, ne-eqb}
-use Rattle.orders.specs.SplitMix.{advanced, drawn, draws}
+use Rattle.shuffle.specs.SplitMix.{advanced, drawn, draws}
 use Rattle.orders.specs.Ranking.{Order}
 use Rattle.orders.specs.Rows.{numbers}
 use Rattle.orders.proofs.Rows.{length-numbers, getD-numbers, take-numbers}
-use Rattle.orders.specs.Shuffle.{exchanged, shuffled, place, arrangement}
+use Rattle.shuffle.specs.Shuffle.{exchanged, shuffled, place, arrangement}
 
 -- the place of v is the first that holds v
 pub place-at : (v : ℕ) (xs : List ℕ) (k : ℕ) → k < length xs → ((j : ℕ) → j < k → getD xs j 0 ≢ v) → getD xs k 0 ≡ v → place v xs ≡ k

@@ -4,10 +4,10 @@ use native.Mathlib.Nat.{mod-lt}
 use mathlib.Core.Path.{_≡_, refl, sym, ap, _∙_}
 use Prim.Native.Nat.{ℕ, _+_, _-_, _%_, _<_, _≤_}
 use lib.ListN.{length, getD, take}
-use Rattle.orders.specs.SplitMix.{advanced, drawn, draws}
-use Rattle.orders.specs.Shuffle.{arrangement, shuffled, exchanged}
-use Rattle.orders.proofs.ShuffleOrder.{start-list, take-exchanged, shuffled-step, shuffled-done, sixteen}
-use Rattle.orders.proofs.shuffle.arrange.Needs as need
+use Rattle.shuffle.specs.SplitMix.{advanced, drawn, draws}
+use Rattle.shuffle.specs.Shuffle.{arrangement, shuffled, exchanged}
+use Rattle.shuffle.proofs.ShuffleOrder.{start-list, take-exchanged, shuffled-step, shuffled-done, sixteen}
+use Rattle.shuffle.proofs.arrange.Needs as need
 
 pub loop-m-holds : need.loop-m-holds
 loop-m-holds c =
