@@ -30,15 +30,15 @@ refused f t = record { answer = Err f; tables = t }
 abbrev pub done : {A : Type 0} → Tables A → Outcome A
 done t = record { answer = Ok tt; tables = t }
 
-module _ {A : Type 0} (s : Setup) (K : Kind A) where
-  -- the wait of seat i is due to end: 2 Δ after it entered its round
-  abbrev pub wait-due : Tables A → ℕ → Bool
-  wait-due t i =
-      cond (honest s i) (
-      cond (is-waiting (seat-at t i .phase)) (leb (entered-at s t i (seat-at t i .round) + 2 * s .delay) (t .clock)) false) false
+-- the wait of seat i is due to end: 2 Δ after it entered its round
+abbrev pub wait-due : {A : Type 0} → Setup → Tables A → ℕ → Bool
+wait-due s t i =
+    cond (honest s i) (
+    cond (is-waiting (seat-at t i .phase)) (leb (entered-at s t i (seat-at t i .round) + 2 * s .delay) (t .clock)) false) false
 
+module _ {A : Type 0} (s : Setup) (K : Kind A) where
   abbrev pub end-due : ℕ → Tables A → Tables A
-  end-due i t = cond (wait-due t i) (end-wait s K t i) t
+  end-due i t = cond (wait-due s t i) (end-wait s K t i) t
 
   -- a tick: the clock moves on, and then the waits that are due end, in rising seat order
   unfoldable pub tick : Tables A → Outcome A
