@@ -21,7 +21,16 @@ pub mod ViewLaws
 pub mod LedRuns
 pub mod Tests
 pub mod Rows
+pub mod Loops
+pub mod Writes
+pub mod Least
 pub mod BenchView
 pub mod Numbering
 pub mod Seats
 pub mod LawfulTerms
+pub mod OpenedTables
+pub mod Signing
+pub mod TakingIn
+pub mod Making
+pub mod MovingOn
+pub mod Waking
