@@ -34,3 +34,8 @@ pub mod TakingIn
 pub mod Making
 pub mod MovingOn
 pub mod Waking
+pub mod ParentChoice
+pub mod VotingChoice
+pub mod Voting
+pub mod Sound
+pub mod Acting
