@@ -39,3 +39,5 @@ pub mod VotingChoice
 pub mod Voting
 pub mod Sound
 pub mod Acting
+pub mod Proposing
+pub mod Leaving

@@ -29,6 +29,14 @@ use Rattle.laws.proofs.Seats.{count-set}
 use Rattle.laws.proofs.LawfulTerms.{lawful}
 use Rattle.laws.proofs.OpenedTables.{is-opened, root-row, root-up}
 
+-- a made block has a row
+pub made-fits : {A : Type 0} (s : Setup) (t : Tables A) → length (t .blocks) ≡ block-rows s → (b : ℕ) → T (block-at t b .made) → b < block-rows s
+made-fits s t e b q = go (decLe (suc b) (length (t .blocks)))
+  where
+    go : Dec (suc b ≤ length (t .blocks)) → b < block-rows s
+    go (yes l) = omega (arith, e)
+    go (no n) = absurd (subst (λ a. T (a .made)) (List·getD-eq-default (t .blocks) no-block {n = b} (omega (arith, n))) q)
+
 -- a phase and the round that it is of
 abbrev pub Phase-fits : Setup → Phase → ℕ → Type 0
 Phase-fits s Waiting r = Unit {0}
@@ -95,11 +103,7 @@ module _ {A : Type 0} (s : Setup) (K : Kind A) (P : Proper s) (idles : Idle-foll
     parents (suc c) q = blocks-of .parent-made (suc c) q (round-above s (suc c) (omega arith))
 
     pub made-room : (b : ℕ) → T (v .made b) → b < block-rows s
-    made-room b q = go (decLe (suc b) (length (t .blocks)))
-      where
-        go : Dec (suc b ≤ length (t .blocks)) → b < block-rows s
-        go (yes l) = omega (arith, f .sized .blocks)
-        go (no n) = absurd (subst (λ a. T (a .made)) (List·getD-eq-default (t .blocks) no-block {n = b} (omega (arith, n))) q)
+    made-room b q = made-fits s t (f .sized .blocks) b q
 
     -- how many signatures an honest seat has, by the row and by the seats
     pub ones-is : (i c : ℕ) → T (honest s i) → count (s .n) (bit (received-at s t i c .signers)) ≡ ones (received-at s t i c .signers)
