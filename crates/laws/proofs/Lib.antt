@@ -41,3 +41,7 @@ pub mod Sound
 pub mod Acting
 pub mod Proposing
 pub mod Leaving
+pub mod VotesOfReaction
+pub mod Reacting
+pub mod HeadChoice
+pub mod EndingWaits
