@@ -45,3 +45,6 @@ pub mod VotesOfReaction
 pub mod Reacting
 pub mod HeadChoice
 pub mod EndingWaits
+pub mod Settled
+pub mod NothingOverdue
+pub mod Ticking
