@@ -48,3 +48,8 @@ pub mod EndingWaits
 pub mod Settled
 pub mod NothingOverdue
 pub mod Ticking
+pub mod Delivering
+pub mod ByzantineActs
+pub mod Planting
+pub mod SigningCalls
+pub mod OpenedSettled
