@@ -53,3 +53,6 @@ pub mod ByzantineActs
 pub mod Planting
 pub mod SigningCalls
 pub mod OpenedSettled
+pub mod Outcomes
+pub mod OrderRows
+pub mod Refusing
