@@ -14,7 +14,7 @@ use Rattle.laws.proofs.Invariants.{Timing, Blocks}
 use Rattle.laws.proofs.StepFacts.{moved}
 use Rattle.laws.proofs.Facts.{signer}
 use Rattle.laws.proofs.HeadsKept.{on-stays, headed-stays}
-use Rattle.laws.proofs.Heads.{tree, lawful, headed-final, head-final, head-made, parent-notarised}
+use Rattle.laws.proofs.Heads.{tree, lawful-tree, headed-final, head-final, head-made, parent-notarised}
 
 -- the wait of a seat in a round was over before, or it ends now
 pub past-wait-or : (k : Terms) (v w : View) → Step k v w → (i r : ℕ) → T (w .honest i) → Past-wait k w i r
@@ -37,7 +37,7 @@ module _ (k : Terms) (L : Lawful-terms k) (v w : View) (timing : Timing k v) (bl
           (blocks .head i (s .honest-was i hi))
       go : Dec (w .head i ≡ v .head i) → On (w .parent) (k .round-of) (v .head i) (w .head i)
       go (yes e) = record { back = 0; rounds = omega (arith, ap (k .round-of) e); there = e }
-      go (no n) = on-older (tree k w) (lawful k L w timing′ blocks′) (v .head i) (w .head i) old (head-final k L w timing′ blocks′ i hi)
+      go (no n) = on-older (tree k w) (lawful-tree k L w timing′ blocks′) (v .head i) (w .head i) old (head-final k L w timing′ blocks′ i hi)
           (s .heads i hi n .not-older)
 
   pub final-stays : (i b : ℕ) → T (w .honest i) → Final-at k v i b → Final-at k w i b

@@ -7,7 +7,7 @@ use native.Mathlib.Omega.{arith}
 use lib.Dec.{T}
 use Rattle.rules.specs.Chains.{ancestor}
 use Rattle.laws.proofs.Counts.{count-mono}
-use Rattle.laws.proofs.Trees.{Tree, Lawful, Final, final-made}
+use Rattle.laws.proofs.Trees.{Tree, Lawful-tree, Final, final-made}
 use Rattle.laws.proofs.View.{Terms, Lawful-terms, View, Is-notarised}
 use Rattle.laws.proofs.Invariants.{Timing, Headed, Blocks}
 use Rattle.laws.proofs.Facts.{signer, notarised-valid, notarisation-real}
@@ -33,8 +33,8 @@ module _ (k : Terms) (L : Lawful-terms k) (v : View) (timing : Timing k v) (bloc
       let made = notarised-valid k L v timing (blocks .few) b n .0 in
       ancestor-notarised x (v .parent b) (parent-notarised b made (omega arith)) (omega (arith, blocks .parent-round b made (omega arith)))
 
-  pub lawful : Lawful (tree k v)
-  lawful = record {
+  pub lawful-tree : Lawful-tree (tree k v)
+  lawful-tree = record {
     parent-made = blocks .parent-made;
     parent-round = blocks .parent-round;
     parent-notarised = parent-notarised;
@@ -62,4 +62,4 @@ module _ (k : Terms) (L : Lawful-terms k) (v : View) (timing : Timing k v) (bloc
   head-final i hi = ⊎-elim inr (λ d. inl (headed-final i (v .head i) hi d)) (blocks .head i hi)
 
   pub head-made : (i : ℕ) → T (v .honest i) → T (v .made (v .head i))
-  head-made i hi = final-made (tree k v) lawful (v .head i) (head-final i hi)
+  head-made i hi = final-made (tree k v) lawful-tree (v .head i) (head-final i hi)

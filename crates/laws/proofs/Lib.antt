@@ -56,3 +56,7 @@ pub mod OpenedSettled
 pub mod Outcomes
 pub mod OrderRows
 pub mod Refusing
+pub mod AcceptedOpening
+pub mod RunsSettled
+pub mod FinalChains
+pub mod EveryRun

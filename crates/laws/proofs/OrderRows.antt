@@ -16,6 +16,7 @@ use Rattle.rules.specs.ParentChoice.{parent-choice}
 use Rattle.rules.specs.VotingChoice.{holds-valid, lowest-rank, voting-choice}
 use Rattle.rules.specs.Seat.{end-wait, leave, leave-by, propose, react, react-as, react-in, vote, vote-at-rank, vote-for, vote-from, wakes}
 use Rattle.rules.specs.Calls.{end-due, wait-due}
+use Rattle.rules.specs.Opening.{opened-tables}
 use Rattle.rules.specs.Runs.{Call, call-with}
 use Rattle.rules.specs.Runs.Call.{block-call, certificate-call, offer-call, plant-call, sign-call, tick-call, vote-call}
 use Rattle.laws.proofs.Loops.{upto-keeps}
@@ -24,6 +25,11 @@ use Rattle.laws.proofs.Outcomes.{block-outcome, certificate-outcome, offer-out
 either : {A : Type 0} (o : Tables A) (b : Bool) (x y : Tables A) → x .orders ≡ o .orders → y .orders ≡ o .orders → cond b x y .orders ≡ o .orders
 either o true x y p q = p
 either o false x y p q = q
+
+-- an opening copies them out
+pub opened-orders : {A : Type 0} (s : Setup) (K : Kind A) → opened-tables s K .orders ≡ s .orders
+unfolding opened-tables
+opened-orders s K = refl
 
 module _ {A : Type 0} (s : Setup) (K : Kind A) where
   propose-orders : (t : Tables A) (i r p : ℕ) → propose s K t i r p .orders ≡ t .orders

@@ -14,7 +14,7 @@ pub record Tree : Type 1 where
   pub Notarised : ℕ → Type 0
   pub Signed : ℕ → Type 0   -- an honest seat has signed it
 
-pub record Lawful (t : Tree) : Type 0 where
+pub record Lawful-tree (t : Tree) : Type 0 where
   -- the parent of a made block is made, of the round before, and from round 2 on notarised
   pub parent-made : (b : ℕ) → t .Made b → 1 ≤ t .round-of b → t .Made (t .parent b)
   pub parent-round : (b : ℕ) → t .Made b → 1 ≤ t .round-of b → suc (t .round-of (t .parent b)) ≡ t .round-of b
@@ -37,7 +37,7 @@ pub record Final (t : Tree) (h : ℕ) : Type 0 where
   pub tip-notarised : t .Notarised tip
   pub tip-round : t .round-of tip ≡ basis
 
-module _ (t : Tree) (l : Lawful t) where
+module _ (t : Tree) (l : Lawful-tree t) where
   -- the chain of a notarised block has a notarised block of each earlier round m, d rounds below
   down : (m : ℕ) → 1 ≤ m → (d c : ℕ) → t .Notarised c → t .round-of c ≡ m + d
     → (a : ℕ) × t .Notarised a × (t .round-of a ≡ m) × On (t .parent) (t .round-of) a c

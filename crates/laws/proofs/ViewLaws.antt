@@ -10,7 +10,7 @@ use Rattle.laws.proofs.View.{Terms, Lawful-terms, View, Is-notarised, Final-at
 use Rattle.laws.proofs.Discipline.{Run}
 use Rattle.laws.proofs.Invariants.{Timing, Blocks}
 use Rattle.laws.proofs.Facts.{signer, notarised-valid}
-use Rattle.laws.proofs.Heads.{tree, lawful, head-final, ancestor-notarised}
+use Rattle.laws.proofs.Heads.{tree, lawful-tree, head-final, ancestor-notarised}
 use Rattle.laws.proofs.Opened.{Opened, opened-invariants}
 use Rattle.laws.proofs.Runs.{run-then, invariants-kept, run-final, past-stay}
 
@@ -60,13 +60,13 @@ module _ (k : Terms) (L : Lawful-terms k) (v : View) (timing : Timing k v) (bloc
   one-per-round i j b c hi hj p q e = ⊎-elim
       (λ o. on-one-round (v .parent) (k .round-of) b c (v .head j) (on-trans (v .parent) (k .round-of) b (v .head i) (v .head j) p o) q e)
       (λ o. on-one-round (v .parent) (k .round-of) b c (v .head i) p (on-trans (v .parent) (k .round-of) c (v .head j) (v .head i) q o) e)
-      (agree (tree k v) (lawful k L v timing blocks) (v .head i) (v .head j) (head-final k L v timing blocks i hi) (head-final k L v timing blocks j hj))
+      (agree (tree k v) (lawful-tree k L v timing blocks) (v .head i) (v .head j) (head-final k L v timing blocks i hi) (head-final k L v timing blocks j hj))
 
   -- a final block lies below a notarised one, so it is notarised
   follows : (i b : ℕ) → T (v .honest i) → Final-at k v i b → 1 ≤ k .round-of b → T (v .valid b)
   follows i b hi o p = ⊎-elim
       (λ f.
-        let x = on-trans (v .parent) (k .round-of) b (v .head i) (f .tip) o (on-tip (tree k v) (lawful k L v timing blocks) (v .head i) f) in
+        let x = on-trans (v .parent) (k .round-of) b (v .head i) (f .tip) o (on-tip (tree k v) (lawful-tree k L v timing blocks) (v .head i) f) in
         let n = ancestor-notarised k L v timing blocks (x .back) (f .tip) (f .tip-notarised) (omega (arith, x .rounds)) in
         notarised-valid k L v timing (blocks .few) b (subst (Is-notarised k v) (x .there) n) .1)
       (λ e. absurd (omega (arith, ap (k .round-of) e, L .root-round, o .rounds)))
