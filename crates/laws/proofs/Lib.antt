@@ -60,3 +60,4 @@ pub mod AcceptedOpening
 pub mod RunsSettled
 pub mod FinalChains
 pub mod EveryRun
+pub mod InTime
