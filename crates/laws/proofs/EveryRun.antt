@@ -97,13 +97,13 @@ module _ {A : Type 0} (b : Bench) (m : Ranking) (K : Kind A) (idles : Idle-follo
       let q = after-settles s K P idles b ds t (rt .setup) (rt .settled) in
       laws-at t (after b K ds t) (rt .settled .sound) (q .0 .settled .sound) (q .0 .run) (q .1)
 
-pub no-run-splits-the-record : {A : Type 0} (K : Kind A) → No-run-splits-the-record K
+pub no-run-splits-the-record : {A : Type 0} (K : Kind A) → Idle-follows K → No-run-splits-the-record K
 no-run-splits-the-record K idles ro m delay rounds editions q lent law some enough ok cs ds =
     let b = bench-of ro delay rounds editions q in
     let a = accepted b m lent ok in
     laws-after b m K idles law a (proper ro m delay rounds editions q law some enough a) cs ds
 
-pub no-majority-run-splits-the-record : {A : Type 0} (K : Kind A) → No-majority-run-splits-the-record K
+pub no-majority-run-splits-the-record : {A : Type 0} (K : Kind A) → Idle-follows K → No-majority-run-splits-the-record K
 no-majority-run-splits-the-record K idles ro m delay rounds editions lent law ok cs ds =
     no-run-splits-the-record K idles ro m delay rounds editions (majority-of (ro .n)) lent law
       (omega (arith, ro .«fewer_than_half»)) (omega (arith, ro .«fewer_than_half»)) ok cs ds

@@ -83,7 +83,7 @@ module _ {A : Type 0} (b : Bench) (m : Ranking) (K : Kind A) (idles : Idle-follo
           go (yes e) = inr (e, n e)
           go (no d) = inl (omega (arith, d))
 
-pub every-run-is-in-time : {A : Type 0} (K : Kind A) → Every-run-is-in-time K
+pub every-run-is-in-time : {A : Type 0} (K : Kind A) → Idle-follows K → Every-run-is-in-time K
 unfolding after
 every-run-is-in-time K idles ro m delay rounds editions q lent law some enough ok cs =
     let b = bench-of ro delay rounds editions q in

@@ -61,3 +61,4 @@ pub mod RunsSettled
 pub mod FinalChains
 pub mod EveryRun
 pub mod InTime
+pub mod OneSeatRun

@@ -5,7 +5,7 @@ use Prim.Native.Nat.{ℕ, suc, _+_, _*_, _≤_, _<_}
 use lib.Count.{ones}
 use Rattle.std.specs.declared.result.Result.the-variants.{Ok}
 use Rattle.orders.specs.Ranking.{Ranking, Lawful}
-use Rattle.records.specs.Kind.{Kind, Idle-follows}
+use Rattle.records.specs.Kind.{Kind}
 use Rattle.roster.specs.declared.roster.Roster.{Roster}
 use Rattle.rules.specs.declared.rows.Phase.the-variants.{Waiting}
 use Rattle.rules.specs.Setup.{Bench}
@@ -32,8 +32,8 @@ pub record In-time {A : Type 0} (b : Bench) (m : Ranking) (t : Tables A) : Type 
 
 -- for the same benches and runs as the laws
 abbrev pub Every-run-is-in-time : {A : Type 0} → Kind A → Type 0
-Every-run-is-in-time {A} K = Idle-follows K
-  → (ro : Roster) (m : Ranking) (delay rounds editions q : ℕ) (lent : Tables A)
+Every-run-is-in-time {A} K =
+    (ro : Roster) (m : Ranking) (delay rounds editions q : ℕ) (lent : Tables A)
   → Lawful m → ones (ro .marks) < q → q + ones (ro .marks) ≤ ro .n
   → open-answer (bench-of ro delay rounds editions q) m lent ≡ Ok tt
   → (cs : List (Call A)) → In-time (bench-of ro delay rounds editions q) m (after (bench-of ro delay rounds editions q) K cs (opened (bench-of ro delay rounds editions q) m K))

@@ -9,7 +9,7 @@ use Rattle.std.specs.declared.result.Result.the-variants.{Ok, Err}
 use Rattle.numbers.specs.Numbering.{round-of, number-of}
 use Rattle.numbers.specs.Quorum.{majority-of}
 use Rattle.orders.specs.Ranking.{Ranking, Lawful}
-use Rattle.records.specs.Kind.{Kind, Idle-follows}
+use Rattle.records.specs.Kind.{Kind}
 use Rattle.roster.specs.declared.roster.Roster.{Roster}
 use Rattle.roster.specs.Marks.{is-honest}
 use Rattle.rules.specs.declared.fault.BenchFault.{BenchFault}
@@ -104,20 +104,20 @@ pub record Laws {A : Type 0} (b : Bench) (m : Ranking) (K : Kind A) (t u : Table
 abbrev pub Laws-after : {A : Type 0} → Bench → Ranking → Kind A → List (Call A) → List (Call A) → Type 0
 Laws-after b m K cs ds = Laws b m K (after b K cs (opened b m K)) (after b K ds (after b K cs (opened b m K)))
 
--- For every record type whose idle record follows, every roster, every beacon that gives an order of the seats, and every
--- accepted opening with a quorum q such that f < q and q + f ≤ n: the laws hold over every list of calls, accepted or refused,
--- before the first call and after each.
+-- K is the meaning of a record type: a type that is a `Record`, so that the idle record of every p follows p. Then for
+-- every roster, every beacon that gives an order of the seats, and every accepted opening with a quorum q such that f < q and
+-- q + f ≤ n, the laws hold over every list of calls, accepted or refused, before the first call and after each.
 abbrev pub No-run-splits-the-record : {A : Type 0} → Kind A → Type 0
-No-run-splits-the-record {A} K = Idle-follows K
-  → (ro : Roster) (m : Ranking) (delay rounds editions q : ℕ) (lent : Tables A)
+No-run-splits-the-record {A} K =
+    (ro : Roster) (m : Ranking) (delay rounds editions q : ℕ) (lent : Tables A)
   → Lawful m → ones (ro .marks) < q → q + ones (ro .marks) ≤ ro .n
   → open-answer (bench-of ro delay rounds editions q) m lent ≡ Ok tt
   → (cs ds : List (Call A)) → Laws-after (bench-of ro delay rounds editions q) m K cs ds
 
 -- The quorum of a bench is the majority of its seats, which is such a q.
 abbrev pub No-majority-run-splits-the-record : {A : Type 0} → Kind A → Type 0
-No-majority-run-splits-the-record {A} K = Idle-follows K
-  → (ro : Roster) (m : Ranking) (delay rounds editions : ℕ) (lent : Tables A)
+No-majority-run-splits-the-record {A} K =
+    (ro : Roster) (m : Ranking) (delay rounds editions : ℕ) (lent : Tables A)
   → Lawful m
   → open-answer (bench-of ro delay rounds editions (majority-of (ro .n))) m lent ≡ Ok tt
   → (cs ds : List (Call A)) → Laws-after (bench-of ro delay rounds editions (majority-of (ro .n))) m K cs ds
