@@ -62,3 +62,4 @@ pub mod FinalChains
 pub mod EveryRun
 pub mod InTime
 pub mod OneSeatRun
+pub mod PlayedRuns
