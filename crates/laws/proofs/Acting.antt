@@ -103,8 +103,8 @@ module _ {A : Type 0} (s : Setup) (K : Kind A) (P : Proper s) (idles : Idle-foll
 
     -- seat j, which holds block b, receives signatures on it
     pub receive-acts : (j b m : ℕ) → j < s .n → T (v .made b) → T (received-at s t j b .held) → ((x : ℕ) → T (bit m x) → T (v .signed x b)) → Acts j t (receives s t j b m)
-    receive-acts j b m l q has sig =
-        let st = receiving s K P t j b m l (omega (arith, f .sized .received, row-room s P b j (made-room s K P idles t f b q) l)) has sig in
+    receive-acts j b m l q has signed-there =
+        let st = receiving s K P t j b m l (omega (arith, f .sized .received, row-room s P b j (made-room s K P idles t f b q) l)) has signed-there in
         record {
           sound = sound-received (receives s t j b m .received) (length-set (t .received) (b * s .n + j) (receive-row m (received-at s t j b))) (next start st);
           run = next start st;
@@ -116,12 +116,12 @@ module _ {A : Type 0} (s : Setup) (K : Kind A) (P : Proper s) (idles : Idle-foll
         }
 
   -- a seat that did not act stays as calm as it was
-  pub others-calm : (i : ℕ) (t u : Tables A) → Sound s K P idles t → Acts i t u → (j : ℕ) → T (honest s j) → (j ≡ i → ⊥) → Untouched (terms-of s) (view s K t) (view s K u) j
-  others-calm i t u f g j h n = record {
+  pub others-untouched : (i : ℕ) (t u : Tables A) → Sound s K P idles t → Acts i t u → (j : ℕ) → T (honest s j) → (j ≡ i → ⊥) → Untouched (terms-of s) (view s K t) (view s K u) j
+  others-untouched i t u f g j h n = record {
     clock = g .only .clock;
     waiting = ap (λ a. is-waiting (a .phase)) (g .only .seats j n);
     round = ap (λ a. a .round) (g .only .seats j n);
-    entered-at = enter (seat-at t j .round) (timing-of s K P idles t f .round-top j h);
+    entered-at = entered (seat-at t j .round) (timing-of s K P idles t f .round-top j h);
     received = λ c x q. subst (λ a. T (bit (a .signers) x)) (g .only .received j c (honest-below s j h) n) q;
     held = λ c q ok.
       let q′ = subst (λ a. T (a .held)) (g .only .received j c (honest-below s j h) n) q in
@@ -129,7 +129,7 @@ module _ {A : Type 0} (s : Setup) (K : Kind A) (P : Proper s) (idles : Idle-foll
     signed = λ b q. run-signed (g .run) j b q
   }
     where
-      enter : (r : ℕ) → r ≤ suc (s .rounds) → entered-at s u j r ≡ entered-at s t j r
-      enter zero l = refl
-      enter (suc zero) l = refl
-      enter (suc (suc r)) l = ap (λ a. a .tick) (g .only .certificates j r (honest-below s j h) (omega arith) n)
+      entered : (r : ℕ) → r ≤ suc (s .rounds) → entered-at s u j r ≡ entered-at s t j r
+      entered zero l = refl
+      entered (suc zero) l = refl
+      entered (suc (suc r)) l = ap (λ a. a .tick) (g .only .certificates j r (honest-below s j h) (omega arith) n)

@@ -28,7 +28,7 @@ use Rattle.laws.proofs.BenchView.{Proper, terms-of, view}
 use Rattle.laws.proofs.Seats.{few, honest-below}
 use Rattle.laws.proofs.LawfulTerms.{lawful}
 use Rattle.laws.proofs.Sound.{Sound, timing-of}
-use Rattle.laws.proofs.Acting.{Acts, acts-then, others-calm, receive-acts, sound-drafts, take-acts, taken}
+use Rattle.laws.proofs.Acting.{Acts, acts-then, others-untouched, receive-acts, sound-drafts, take-acts, taken}
 use Rattle.laws.proofs.Reacting.{react-acts}
 use Rattle.laws.proofs.Settled.{Settled, Settles, either, same}
 
@@ -44,7 +44,7 @@ module _ {A : Type 0} (s : Setup) (K : Kind A) (P : Proper s) (idles : Idle-foll
       u = react s K (with-received t h) j
       each : (i : ℕ) → T (honest s i) → Acts s K P idles j t u → Calm (terms-of s) (view s K u) j → Dec (i ≡ j) → Calm (terms-of s) (view s K u) i
       each i hi all c (yes e) = subst (Calm (terms-of s) (view s K u)) (sym e) c
-      each i hi all c (no e) = still-calm (terms-of s) (view s K t) (view s K u) i (others-calm s K P idles j t u (z .sound) all i hi e) (z .calm i hi)
+      each i hi all c (no e) = still-calm (terms-of s) (view s K t) (view s K u) i (others-untouched s K P idles j t u (z .sound) all i hi e) (z .calm i hi)
 
   pub offer-settles : (i : ℕ) (d : A) (t : Tables A) → Settled s K P idles t → Settles s K P idles t (offer s K i d t .tables)
   unfolding offer
@@ -83,9 +83,9 @@ module _ {A : Type 0} (s : Setup) (K : Kind A) (P : Proper s) (idles : Idle-foll
   -- taking in a block and receiving signatures on it
   pub hold-receive : (j b m : ℕ) (t : Tables A) → Sound s K P idles t → j < s .n → T (view s K t .made b) → ((x : ℕ) → T (bit m x) → T (view s K t .signed x b))
     → Acts s K P idles j t (receives s (takes-in s t j b) j b m)
-  hold-receive j b m t f l made sig =
+  hold-receive j b m t f l made signed-there =
       let a = take-acts s K P idles t f j b l made in
-      acts-then s K P idles a (receive-acts s K P idles (takes-in s t j b) (a .sound) j b m l made (taken s K P idles t f j b l made .held) sig)
+      acts-then s K P idles a (receive-acts s K P idles (takes-in s t j b) (a .sound) j b m l made (taken s K P idles t f j b l made .held) signed-there)
 
   pub vote-settles : (i j b : ℕ) (t : Tables A) → Settled s K P idles t → Settles s K P idles t (deliver-vote s K i j b t .tables)
   unfolding deliver-vote

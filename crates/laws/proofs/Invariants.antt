@@ -28,7 +28,7 @@ module _ (k : Terms) where
     pub left-by-round : k .round-of (v .left-by i r) ≡ r
     pub left-by-notarised : Notarised-at k v i (v .left-by i r)
 
-  -- Rounds and letters: what a seat has was sent, and it came in time; the seats go through the rounds together.
+  -- Rounds and messages: what a seat has was sent, and it came in time; the seats go through the rounds together.
   pub record Timing (v : View) : Type 0 where
     -- a received signature was made, and its block is held
     pub received : (j b s : ℕ) → T (v .honest j) → T (v .received j b s) → T (v .signed s b) × T (v .held j b)

@@ -95,37 +95,37 @@ module _ {A : Type 0} (s : Setup) (K : Kind A) (P : Proper s) (idles : Idle-foll
       unfolding srow
       mine = getD-set-same (u .seats) i srow no-seat len-s
 
-      cert-new : getD (w .certificates) (i * s .rounds + r) no-certificate ≡ crow
+      certificate-new : getD (w .certificates) (i * s .rounds + r) no-certificate ≡ crow
       unfolding crow
-      cert-new = getD-set-same (u .certificates) (i * s .rounds + r) crow no-certificate len-c
+      certificate-new = getD-set-same (u .certificates) (i * s .rounds + r) crow no-certificate len-c
 
       -- a row of another seat, or of another round
-      cert-other : (j x : ℕ) → j < s .n → x < s .rounds → ((j ≡ i) → (x ≡ r) → ⊥) → getD (w .certificates) (j * s .rounds + x) no-certificate ≡ getD (t .certificates) (j * s .rounds + x) no-certificate
+      certificate-other : (j x : ℕ) → j < s .n → x < s .rounds → ((j ≡ i) → (x ≡ r) → ⊥) → getD (w .certificates) (j * s .rounds + x) no-certificate ≡ getD (t .certificates) (j * s .rounds + x) no-certificate
       unfolding crow
-      cert-other j x lj lx d = getD-set-other (u .certificates) (i * s .rounds + r) (j * s .rounds + x) crow no-certificate
+      certificate-other j x lj lx d = getD-set-other (u .certificates) (i * s .rounds + r) (j * s .rounds + x) crow no-certificate
           (λ e. let o = row-one (s .rounds) j i x r lx top e in d (o .0) (o .1)) ∙ ap (λ z. getD z (j * s .rounds + x) no-certificate) (y .certificates)
 
-      sig-w : (x d : ℕ) → T (v .signed x d) → T (view s K w .signed x d)
-      sig-w x d q = subst (λ z. T (cond (ltb x (s .n)) (getD z (d * s .n + x) no-vote .sent) false)) (sym (y .votes)) q
+      signed-w : (x d : ℕ) → T (v .signed x d) → T (view s K w .signed x d)
+      signed-w x d q = subst (λ z. T (cond (ltb x (s .n)) (getD z (d * s .n + x) no-vote .sent) false)) (sym (y .votes)) q
 
       sealed-new : Sealed s K P idles w i r
       unfolding crow
       sealed-new = record {
-        signed = λ x q. subst (λ a. T (view s K w .signed x (a .block))) (sym cert-new) (is-c x (subst (λ a. T (bit (a .signers) x)) cert-new q));
-        quorum = subst (λ a. s .quorum ≤ count (s .n) (bit (a .signers))) (sym cert-new) has
+        signed = λ x q. subst (λ a. T (view s K w .signed x (a .block))) (sym certificate-new) (is-c x (subst (λ a. T (bit (a .signers) x)) certificate-new q));
+        quorum = subst (λ a. s .quorum ≤ count (s .n) (bit (a .signers))) (sym certificate-new) has
       }
         where
           is-c : (x : ℕ) → T (bit (crow .signers) x) → T (view s K w .signed x (crow .block))
-          is-c x q = sig-w x c (timing-of s K P idles t f .received i c x h q .0)
+          is-c x q = signed-w x c (timing-of s K P idles t f .received i c x h q .0)
           has : s .quorum ≤ count (s .n) (bit (crow .signers))
           has = n
 
       sealed-old : (j x : ℕ) → T (honest s j) → suc x < seat-at t j .round → ((j ≡ i) → (x ≡ r) → ⊥) → Sealed s K P idles w j x
       sealed-old j x hj l d =
-          let e = cert-other j x (honest-below s j hj) (omega (arith, timing-of s K P idles t f .round-top j hj)) d in
+          let e = certificate-other j x (honest-below s j hj) (omega (arith, timing-of s K P idles t f .round-top j hj)) d in
           let old = f .sealed j x hj l in
           record {
-            signed = λ z q. subst (λ a. T (view s K w .signed z (a .block))) (sym e) (sig-w z (certificate-at s t j (suc x) .block) (old .signed z (subst (λ a. T (bit (a .signers) z)) e q)));
+            signed = λ z q. subst (λ a. T (view s K w .signed z (a .block))) (sym e) (signed-w z (certificate-at s t j (suc x) .block) (old .signed z (subst (λ a. T (bit (a .signers) z)) e q)));
             quorum = subst (λ a. s .quorum ≤ count (s .n) (bit (a .signers))) (sym e) (old .quorum)
           }
 
@@ -137,13 +137,13 @@ module _ {A : Type 0} (s : Setup) (K : Kind A) (P : Proper s) (idles : Idle-foll
       unfolding srow
       head-new = ap (λ a. a .head) mine ∙ ap (λ a. a .head) (seat-u i)
 
-      waits-new : T (is-waiting (seat-at w i .phase))
+      waiting-new : T (is-waiting (seat-at w i .phase))
       unfolding srow
-      waits-new = subst (λ a. T (is-waiting (a .phase))) (sym mine) tt
+      waiting-new = subst (λ a. T (is-waiting (a .phase))) (sym mine) tt
 
-      enter-new : entered-at s w i (suc (suc r)) ≡ w .clock
+      entered-new : entered-at s w i (suc (suc r)) ≡ w .clock
       unfolding crow
-      enter-new = ap (λ a. a .tick) cert-new
+      entered-new = ap (λ a. a .tick) certificate-new
 
       phase-new : Phase-fits s (seat-at w i .phase) (seat-at w i .round)
       unfolding srow
@@ -198,15 +198,15 @@ module _ {A : Type 0} (s : Setup) (K : Kind A) (P : Proper s) (idles : Idle-foll
           clock = y .clock;
           received = y .received;
           seats = λ j d. seat-other j d;
-          certificates = λ j x lj lx d. cert-other j x lj lx (λ e. absurd (d e))
+          certificates = λ j x lj lx d. certificate-other j x lj lx (λ e. absurd (d e))
         }
       }
 
       calm-w : Calm (terms-of s) (view s K w) i
       calm-w = record {
-        waiting = λ q. omega (arith, ap (entered-at s w i) round-new, enter-new, P .delay);
-        voting = λ q. absurd (q waits-new);
-        done = λ q. absurd (q waits-new)
+        waiting = λ q. omega (arith, ap (entered-at s w i) round-new, entered-new, P .delay);
+        voting = λ q. absurd (q waiting-new);
+        done = λ q. absurd (q waiting-new)
       }
 
   -- an honest voting seat that holds a notarisation of its round leaves it

@@ -1,4 +1,4 @@
--- Steps by what they change: letters alone, or the clock alone. And a seat that did not act stays calm.
+-- Steps by what they change: messages alone, or the clock alone. And a seat that did not act stays calm.
 use mathlib.Core.Path.{_≡_, refl, sym, _∙_, ap, subst}
 use mathlib.Core.Bool.{Bool}
 use Prim.Native.Nat.{ℕ, suc}
@@ -10,15 +10,15 @@ use Rattle.laws.proofs.View.{Terms, View, Few-byzantine}
 use Rattle.laws.proofs.Discipline.{Calm, Holding, Votes, Ticks, Step}
 
 -- view v with other signatures, holdings and received signatures
-abbrev pub with-letters : View → (ℕ → ℕ → Bool) → (ℕ → ℕ → ℕ) → (ℕ → ℕ → Bool) → (ℕ → ℕ → ℕ → Bool) → View
-with-letters v signed signed-at held received = record {
+abbrev pub with-messages : View → (ℕ → ℕ → Bool) → (ℕ → ℕ → ℕ) → (ℕ → ℕ → Bool) → (ℕ → ℕ → ℕ → Bool) → View
+with-messages v signed signed-at held received = record {
   clock = v .clock; honest = v .honest; made = v .made; valid = v .valid; parent = v .parent; carried = v .carried;
   signed = signed; signed-at = signed-at; held = held; received = received;
   round = v .round; waiting = v .waiting; entered-at = v .entered-at; left-by = v .left-by; head = v .head
 }
 
 -- What is asked of these for a step: what was there stays, and what is new has its ground.
-pub record New-letters (k : Terms) (v w : View) : Type 0 where
+pub record New-messages (k : Terms) (v w : View) : Type 0 where
   pub signed-stays : (i b : ℕ) → T (v .signed i b) → T (w .signed i b)
   pub signed-at-same : (i b : ℕ) → T (v .signed i b) → w .signed-at i b ≡ v .signed-at i b
   pub held-stays : (i b : ℕ) → T (v .held i b) → T (w .held i b)
@@ -27,9 +27,9 @@ pub record New-letters (k : Terms) (v w : View) : Type 0 where
   pub gets : (j b : ℕ) → T (w .honest j) → T (w .held j b) → (T (v .held j b) → ⊥) → Holding k w j b
   pub receives : (j b s : ℕ) → T (w .honest j) → T (w .received j b s) → (T (v .received j b s) → ⊥) → T (w .signed s b) × T (w .held j b)
 
-pub letters-step : (k : Terms) (v : View) (signed : ℕ → ℕ → Bool) (signed-at : ℕ → ℕ → ℕ) (held : ℕ → ℕ → Bool) (received : ℕ → ℕ → ℕ → Bool)
-  → Few-byzantine k v → New-letters k v (with-letters v signed signed-at held received) → Step k v (with-letters v signed signed-at held received)
-letters-step k v signed signed-at held received few d = record {
+pub messages-step : (k : Terms) (v : View) (signed : ℕ → ℕ → Bool) (signed-at : ℕ → ℕ → ℕ) (held : ℕ → ℕ → Bool) (received : ℕ → ℕ → ℕ → Bool)
+  → Few-byzantine k v → New-messages k v (with-messages v signed signed-at held received) → Step k v (with-messages v signed signed-at held received)
+messages-step k v signed signed-at held received few d = record {
   clock-le = le-refl (v .clock);
   honest-was = λ i h. h;
   round-le = λ i. le-refl (v .round i);

@@ -33,7 +33,7 @@ module _ {A : Type 0} (s : Setup) (K : Kind A) (P : Proper s) where
     → (T (see t .waiting i) → ⊥) → see t .entered-at i (suc r) + 2 * s .delay ≤ t .clock → Notarised-at k (see t) i c → block-round s c ≡ suc r
     → (suc (suc r) ≤ s .rounds → T (see t .made (own-block s i (suc (suc r)))))
     → Step k (see t) (see (moves-on s t i r c m))
-  moving t i r c m li len-s len-c at-r top tops awake over noted round-is made = record {
+  moving t i r c m li len-s len-c at-r top tops awake over notarised round-is made = record {
     clock-le = le-refl (t .clock);
     honest-was = λ j h. h;
     round-le = λ j. ⊎-elim (λ e. omega (arith, ap (λ y. y .round) (e .1), at-r, ap (see t .round) (e .0))) (λ e. omega (arith, ap (λ y. y .round) e)) (seat′ j);
@@ -68,8 +68,8 @@ module _ {A : Type 0} (s : Setup) (K : Kind A) (P : Proper s) where
       crow = record { block = c; signers = m; tick = t .clock }
       seat′ : (x : ℕ) → ((x ≡ i) × (seat-at w x ≡ srow)) ⊎ (seat-at w x ≡ seat-at t x)
       seat′ x = set-cases (t .seats) i srow no-seat len-s x
-      cert : (x : ℕ) → ((x ≡ i * s .rounds + r) × (getD (w .certificates) x no-certificate ≡ crow)) ⊎ (getD (w .certificates) x no-certificate ≡ getD (t .certificates) x no-certificate)
-      cert x = set-cases (t .certificates) (i * s .rounds + r) crow no-certificate len-c x
+      certificate-case : (x : ℕ) → ((x ≡ i * s .rounds + r) × (getD (w .certificates) x no-certificate ≡ crow)) ⊎ (getD (w .certificates) x no-certificate ≡ getD (t .certificates) x no-certificate)
+      certificate-case x = set-cases (t .certificates) (i * s .rounds + r) crow no-certificate len-c x
       here : getD (w .certificates) (i * s .rounds + r) no-certificate ≡ crow
       here = getD-set-same (t .certificates) (i * s .rounds + r) crow no-certificate len-c
       -- a row of an earlier round is another row
@@ -78,7 +78,7 @@ module _ {A : Type 0} (s : Setup) (K : Kind A) (P : Proper s) where
           (λ e.
             let o = row-one (s .rounds) j i x r (omega (arith, tops j h)) top (e .0) in
             absurd (omega (arith, ap (see t .round) (o .0), o .1, at-r)))
-          (λ e. e) (cert (j * s .rounds + x))
+          (λ e. e) (certificate-case (j * s .rounds + x))
       entered-at-same : (j x : ℕ) → T (honest s j) → x ≤ see t .round j → see w .entered-at j x ≡ see t .entered-at j x
       entered-at-same j zero h l = refl
       entered-at-same j (suc zero) h l = refl
@@ -93,7 +93,7 @@ module _ {A : Type 0} (s : Setup) (K : Kind A) (P : Proper s) where
         now = ap (λ y. see w .entered-at i (suc y)) at-r ∙ ap (λ y. y .tick) here;
         over = omega (arith, ap (see t .entered-at i) at-r, over);
         below = omega (arith, at-r);
-        certified = subst (Notarised-at k (see t) i) (sym by-c) noted;
+        certified = subst (Notarised-at k (see t) i) (sym by-c) notarised;
         left-by-round = ap (block-round s) by-c ∙ round-is ∙ sym at-r;
         waited = awake;
         waiting = subst (λ y. T (is-waiting (y .phase))) (sym mine) tt;

@@ -76,19 +76,19 @@ module _ {A : Type 0} (s : Setup) (K : Kind A) (P : Proper s) (idles : Idle-foll
 
     -- a vote
     pub votes-due : (i b : ℕ) → T (honest s i) → T (v .signed i b) → vote-at s t i b .tick + s .delay ≤ suc (t .clock) → (j : ℕ) → T (honest s j) → T (v .held j b) × T (v .received j b i)
-    votes-due i b h sig due j hj =
+    votes-due i b h signed-there due j hj =
         let x = all-have (λ j. has-vote s t i b j) none j hj in
         (both-l (received-at s t j b .held) (bit (received-at s t j b .signers) i) x, both-r (received-at s t j b .held) (bit (received-at s t j b .signers) i) x)
       where
         lack : Bool
         lack = any (λ j. cond (honest s j) (not (has-vote s t i b j)) false) (s .n)
         made : T (v .made b)
-        made = g .holding i b h (g .voted i b h sig .held) .made
+        made = g .holding i b h (g .voted i b h signed-there .held) .made
         none : T lack → ⊥
         none q =
             let row = any-none (λ b. any (vote-overdue s t b) (s .n)) (block-rows s) no-vote-late b (made-room s K P idles t f b made) in
             any-none (vote-overdue s t b) (s .n) (T-no (any (vote-overdue s t b) (s .n)) row) i (honest-below s i h)
-              (both (vote-at s t i b .sent) (cond (honest s i) (cond (late s t (vote-at s t i b .tick)) lack false) false) (both-r (ltb i (s .n)) (vote-at s t i b .sent) sig)
+              (both (vote-at s t i b .sent) (cond (honest s i) (cond (late s t (vote-at s t i b .tick)) lack false) false) (both-r (ltb i (s .n)) (vote-at s t i b .sent) signed-there)
                 (both (honest s i) (cond (late s t (vote-at s t i b .tick)) lack false) h
                   (both (late s t (vote-at s t i b .tick)) lack (le→leb (vote-at s t i b .tick + s .delay) (suc (t .clock)) due) q)))
 

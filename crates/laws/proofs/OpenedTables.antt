@@ -131,9 +131,9 @@ module _ {A : Type 0} (s : Setup) (K : Kind A) (P : Proper s) (idles : Idle-foll
   unfolding opened-tables
   no-votes y = all-same (block-rows s * s .n) y no-vote
 
-  pub no-certs : (y : ℕ) → getD (opened-tables s K .certificates) y no-certificate ≡ no-certificate
+  pub no-certificates : (y : ℕ) → getD (opened-tables s K .certificates) y no-certificate ≡ no-certificate
   unfolding opened-tables
-  no-certs y = all-same (s .n * s .rounds) y no-certificate
+  no-certificates y = all-same (s .n * s .rounds) y no-certificate
 
   pub at-zero : opened-tables s K .clock ≡ 0
   unfolding opened-tables
@@ -167,7 +167,7 @@ module _ {A : Type 0} (s : Setup) (K : Kind A) (P : Proper s) (idles : Idle-foll
     below = λ i h. honest-below s i h;
     few = few s P;
     rounds = λ i h. ap (λ a. a .round) (opened-seat i h);
-    entered-at = enter;
+    entered-at = entered;
     waiting = λ i h. subst (λ a. T (is-waiting (a .phase))) (sym (opened-seat i h)) tt;
     unsigned = λ i b t. subst (λ a. T (a .sent)) (no-votes (b * s .n + i)) (both-r (ltb i (s .n)) (getD (opened-tables s K .votes) (b * s .n + i) no-vote .sent) t);
     none-received = λ i b x h t. bit-none x (subst (λ (m : ℕ). T (bit m x)) (received-row (b * s .n + i) .silent) t);
@@ -183,10 +183,10 @@ module _ {A : Type 0} (s : Setup) (K : Kind A) (P : Proper s) (idles : Idle-foll
     heads = λ i h. ap (λ a. a .head) (opened-seat i h)
   }
     where
-      enter : (i r : ℕ) → entered-at s (opened-tables s K) i r ≡ 0
-      enter i zero = refl
-      enter i (suc zero) = refl
-      enter i (suc (suc r)) = ap (λ a. a .tick) (no-certs (i * s .rounds + r))
+      entered : (i r : ℕ) → entered-at s (opened-tables s K) i r ≡ 0
+      entered i zero = refl
+      entered i (suc zero) = refl
+      entered i (suc (suc r)) = ap (λ a. a .tick) (no-certificates (i * s .rounds + r))
       root-made : T (getD (opened-tables s K .blocks) 0 no-block .made)
       root-made = ⊎-elim (λ e. subst (λ a. T (a .made)) (sym e) tt) (λ u. subst (λ a. T (a .made)) (sym (u .4)) tt) (block-case 0)
       own-made : (x : ℕ) → T (honest s x) → T (getD (opened-tables s K .blocks) (own1 x) no-block .made)

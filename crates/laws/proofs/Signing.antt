@@ -11,7 +11,7 @@ use Rattle.rules.specs.Setup.{Setup, honest}
 use Rattle.rules.specs.Tables.{Tables, no-vote, vote-at, with-votes}
 use Rattle.laws.proofs.View.{Terms, View}
 use Rattle.laws.proofs.Discipline.{Step}
-use Rattle.laws.proofs.Moves.{letters-step}
+use Rattle.laws.proofs.Moves.{messages-step}
 use Rattle.laws.proofs.Tests.{both, both-l, both-r}
 use Rattle.laws.proofs.Rows.{row-one, set-cases}
 use Rattle.laws.proofs.BenchView.{Proper, terms-of, view}
@@ -27,7 +27,7 @@ module _ {A : Type 0} (s : Setup) (K : Kind A) (P : Proper s) where
   -- a Byzantine seat signs
   pub signs : (t : Tables A) (i b : ℕ) → i < s .n → (T (honest s i) → ⊥) → b * s .n + i < length (t .votes) → (T (vote-at s t i b .sent) → ⊥)
     → Step k (see t) (see (with-votes t (set (t .votes) (b * s .n + i) (record { sent = true; tick = t .clock })) (t .received)))
-  signs t i b li bad len fresh = letters-step k (see t) (see w .signed) (see w .signed-at) (see w .held) (see w .received) (few s P) (record {
+  signs t i b li bad len fresh = messages-step k (see t) (see w .signed) (see w .signed-at) (see w .held) (see w .received) (few s P) (record {
     signed-stays = λ j c q. both (ltb j n) (getD (w .votes) (c * n + j) no-vote .sent) (both-l (ltb j n) (getD (t .votes) (c * n + j) no-vote .sent) q)
       (on (c * n + j) (both-r (ltb j n) (getD (t .votes) (c * n + j) no-vote .sent) q));
     signed-at-same = λ j c q. keep (c * n + j) (both-r (ltb j n) (getD (t .votes) (c * n + j) no-vote .sent) q);

@@ -18,7 +18,7 @@ use Rattle.laws.proofs.Sets.{bit-or}
 use Rattle.laws.proofs.View.{Terms, View}
 use Rattle.laws.proofs.Discipline.{Holding, Run, Step}
 use Rattle.laws.proofs.Discipline.Run.{next, start}
-use Rattle.laws.proofs.Moves.{letters-step}
+use Rattle.laws.proofs.Moves.{messages-step}
 use Rattle.laws.proofs.Tests.{or-case, or-l, or-r}
 use Rattle.laws.proofs.Rows.{row-one, set-cases}
 use Rattle.laws.proofs.BenchView.{Proper, terms-of, view}
@@ -35,7 +35,7 @@ module _ {A : Type 0} (s : Setup) (K : Kind A) (P : Proper s) where
   -- seat j, which holds block b, receives signatures on it
   pub receiving : (t : Tables A) (j b m : ℕ) → j < s .n → b * s .n + j < length (t .received) → T (received-at s t j b .held)
     → ((x : ℕ) → T (bit m x) → T (see t .signed x b)) → Step k (see t) (see (receives s t j b m))
-  receiving t j b m lj len has sent = letters-step k (see t) (see w .signed) (see w .signed-at) (see w .held) (see w .received) (few s P) (record {
+  receiving t j b m lj len has sent = messages-step k (see t) (see w .signed) (see w .signed-at) (see w .held) (see w .received) (few s P) (record {
     signed-stays = λ i c q. q;
     signed-at-same = λ i c q. refl;
     held-stays = λ i c q. ⊎-elim (λ e. subst (λ y. T (y .held)) (sym (e .1)) has) (λ e. subst (λ y. T (y .held)) (sym e) q) (cases (c * n + i));
@@ -72,7 +72,7 @@ module _ {A : Type 0} (s : Setup) (K : Kind A) (P : Proper s) where
   -- seat j holds block b, whose parent it holds, with all that b carries
   pub holding : (t : Tables A) (j b : ℕ) → j < s .n → b * s .n + j < length (t .received) → T (see t .made b) → T (see t .held j (see t .parent b))
     → ((x : ℕ) → T (see t .carried b x) → T (see t .received j (see t .parent b) x)) → Step k (see t) (see (with-received t (set (t .received) (b * s .n + j) (hold-row (received-at s t j b)))))
-  holding t j b lj len made has carried = letters-step k (see t) (see w .signed) (see w .signed-at) (see w .held) (see w .received) (few s P) (record {
+  holding t j b lj len made has carried = messages-step k (see t) (see w .signed) (see w .signed-at) (see w .held) (see w .received) (few s P) (record {
     signed-stays = λ i c q. q;
     signed-at-same = λ i c q. refl;
     held-stays = λ i c q. held-stays (c * n + i) q;
@@ -87,7 +87,7 @@ module _ {A : Type 0} (s : Setup) (K : Kind A) (P : Proper s) where
           carried = λ x y. received-stays (see t .parent b * n + j) x (carried x y)
         })))
       (λ e. absurd (no-q (subst (λ y. T (y .held)) e q))) (cases (c * n + i));
-    receives = λ i c x h q no-q. absurd (no-q (recv-was (c * n + i) x q))
+    receives = λ i c x h q no-q. absurd (no-q (received-was (c * n + i) x q))
   })
     where
       n : ℕ
@@ -100,8 +100,8 @@ module _ {A : Type 0} (s : Setup) (K : Kind A) (P : Proper s) where
       held-stays y q = ⊎-elim (λ e. subst (λ z. T (z .held)) (sym (e .1)) tt) (λ e. subst (λ z. T (z .held)) (sym e) q) (cases y)
       received-stays : (y x : ℕ) → T (bit (getD (t .received) y nothing-received .signers) x) → T (bit (getD (w .received) y nothing-received .signers) x)
       received-stays y x q = ⊎-elim (λ e. subst (λ z. T (bit (z .signers) x)) (sym (e .1)) (subst (λ z. T (bit (getD (t .received) z nothing-received .signers) x)) (e .0) q)) (λ e. subst (λ z. T (bit (z .signers) x)) (sym e) q) (cases y)
-      recv-was : (y x : ℕ) → T (bit (getD (w .received) y nothing-received .signers) x) → T (bit (getD (t .received) y nothing-received .signers) x)
-      recv-was y x q = ⊎-elim (λ e. subst (λ z. T (bit (getD (t .received) z nothing-received .signers) x)) (sym (e .0)) (subst (λ z. T (bit (z .signers) x)) (e .1) q)) (λ e. subst (λ z. T (bit (z .signers) x)) e q) (cases y)
+      received-was : (y x : ℕ) → T (bit (getD (w .received) y nothing-received .signers) x) → T (bit (getD (t .received) y nothing-received .signers) x)
+      received-was y x q = ⊎-elim (λ e. subst (λ z. T (bit (getD (t .received) z nothing-received .signers) x)) (sym (e .0)) (subst (λ z. T (bit (z .signers) x)) (e .1) q)) (λ e. subst (λ z. T (bit (z .signers) x)) e q) (cases y)
 
   -- what taking in gives
   pub record Taken (t : Tables A) (h u : List ReceivedRow) (j b : ℕ) : Type 0 where

@@ -25,7 +25,7 @@ use Rattle.laws.proofs.Loops.{upto-step}
 use Rattle.laws.proofs.BenchView.{Proper, terms-of, view}
 use Rattle.laws.proofs.Seats.{few, honest-below}
 use Rattle.laws.proofs.Sound.{Sound}
-use Rattle.laws.proofs.Acting.{Acts, others-calm}
+use Rattle.laws.proofs.Acting.{Acts, others-untouched}
 use Rattle.laws.proofs.EndingWaits.{end-wait-acts}
 use Rattle.laws.proofs.Settled.{Settled, Settles, either, same}
 use Rattle.laws.proofs.NothingOverdue.{blocks-due, certificates-due, votes-due}
@@ -93,7 +93,7 @@ module _ {A : Type 0} (s : Setup) (K : Kind A) (P : Proper s) (idles : Idle-foll
             each : (j : ℕ) → T (honest s j) → Dec (j ≡ x) → Calm (terms-of s) (view s K (end-wait s K u x)) j ⊎ ((suc x ≤ j) × T (view s K (end-wait s K u x) .waiting j))
             each j hj (yes q) = inl (subst (Calm (terms-of s) (view s K (end-wait s K u x))) (sym q) (r .1))
             each j hj (no q) =
-                let o = others-calm s K P idles x u (end-wait s K u x) (y .sound) (r .0) j hj q in
+                let o = others-untouched s K P idles x u (end-wait s K u x) (y .sound) (r .0) j hj q in
                 ⊎-elim (λ c. inl (still-calm (terms-of s) (view s K u) (view s K (end-wait s K u x)) j o c)) (λ c. inr (omega (arith, c .0, q), subst T (sym (o .waiting)) (c .1))) (y .each j hj)
         go false e = record { sound = y .sound; run = y .run; each = λ j hj. ⊎-elim inl (λ c. each j hj c (ℕ-discrete j x)) (y .each j hj) }
           where

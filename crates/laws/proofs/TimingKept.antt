@@ -1,4 +1,4 @@
--- The timing of rounds and letters lasts over a step. Of each fact: what was there before stays, and what is new has its ground.
+-- The timing of rounds and messages lasts over a step. Of each fact: what was there before stays, and what is new has its ground.
 use mathlib.Core.Path.{_≡_, sym, _∙_, ap, subst}
 use mathlib.Core.Logic.{⊎-elim}
 use Prim.Native.Nat.{ℕ, zero, suc, _+_, _≤_, _<_}

@@ -11,7 +11,7 @@ use Rattle.laws.proofs.Chains.{On}
 -- What stays from the opening on.
 pub record Terms : Type 0 where
   pub seats : ℕ                  -- n
-  pub delay : ℕ                  -- Δ: so many ticks after it was sent an honest letter has reached every honest seat
+  pub delay : ℕ                  -- Δ: so many ticks after it was sent an honest message has reached every honest seat
   pub rounds : ℕ                 -- R, the last round
   pub quorum : ℕ                 -- so many signatures on a block notarise it
   pub byzantine : ℕ              -- f: no more seats than these are Byzantine
@@ -23,7 +23,7 @@ pub record Terms : Type 0 where
 
 -- What the numbering of the blocks, the order of the seats and the opening give.
 pub record Lawful-terms (k : Terms) : Type 0 where
-  -- a letter takes a tick at least
+  -- a message takes a tick at least
   pub delay-pos : 1 ≤ k .delay
   -- a quorum has an honest seat
   pub some-honest : k .byzantine < k .quorum

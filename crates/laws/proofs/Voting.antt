@@ -20,7 +20,7 @@ use Rattle.rules.specs.Seat.{vote-at-rank, vote-for, vote-row}
 use Rattle.laws.proofs.Sets.{bit-or, bit-other, bit-own}
 use Rattle.laws.proofs.View.{Notarised-at, Terms, View}
 use Rattle.laws.proofs.Discipline.{Step, Votes}
-use Rattle.laws.proofs.Moves.{letters-step}
+use Rattle.laws.proofs.Moves.{messages-step}
 use Rattle.laws.proofs.Tests.{T-yes, both, both-l, both-r, or-case, or-l, or-r, yes-T}
 use Rattle.laws.proofs.Rows.{row-one}
 use Rattle.laws.proofs.Writes.{writes-cases, writes-done, writes-keep, writes-length}
@@ -149,8 +149,8 @@ module _ {A : Type 0} (s : Setup) (K : Kind A) (P : Proper s) (t : Tables A) (i 
     chosen-of : (j c : ℕ) → j < s .n → (u : (x : ℕ) × (x < round-width s) × T (chosen x) × (c * s .n + j ≡ rows x)) → Chosen j c
     chosen-of j c l u = let o = row-one (s .n) c (start + u .0) j i l li (u .3) in record { x = u .0; below = u .1; passes = u .2; block = o .0; seat = o .1 }
 
-    sig-here : (j c : ℕ) → (h : Chosen j c) → T (see w .signed j c)
-    sig-here j c h = subst (λ (y : ℕ). T (see w .signed y c)) (sym (h .seat)) (subst (λ (y : ℕ). T (see w .signed i y)) (sym (h .block))
+    signed-here : (j c : ℕ) → (h : Chosen j c) → T (see w .signed j c)
+    signed-here j c h = subst (λ (y : ℕ). T (see w .signed y c)) (sym (h .seat)) (subst (λ (y : ℕ). T (see w .signed i y)) (sym (h .block))
         (both (ltb i (s .n)) (getD (voted .votes) (rows (h .x)) no-vote .sent) (lt→ltb i (s .n) li) (sent-at (h .x) (h .below) (h .passes))))
 
     held-here : (c : ℕ) → (h : Chosen i c) → T (holds-valid s K t i c)
@@ -179,7 +179,7 @@ module _ {A : Type 0} (s : Setup) (K : Kind A) (P : Proper s) (t : Tables A) (i 
         is-chosen = subst (λ y. T (voting-choice s K t i low y)) (sym (h .block)) (h .passes)
 
     step-w : Step k (see t) (see w)
-    step-w = letters-step k (see t) (see w .signed) (see w .signed-at) (see w .held) (see w .received) (few s P) (record {
+    step-w = messages-step k (see t) (see w .signed) (see w .signed-at) (see w .held) (see w .received) (few s P) (record {
       signed-stays = λ j c q. both (ltb j (s .n)) (getD (voted .votes) (c * s .n + j) no-vote .sent) (both-l (ltb j (s .n)) (getD (t .votes) (c * s .n + j) no-vote .sent) q)
         (let q′ = both-r (ltb j (s .n)) (getD (t .votes) (c * s .n + j) no-vote .sent) q in subst (λ a. T (a .sent)) (sym (on-vote (c * s .n + j) q′)) q′);
       signed-at-same = λ j c q. ap (λ a. a .tick) (on-vote (c * s .n + j) (both-r (ltb j (s .n)) (getD (t .votes) (c * s .n + j) no-vote .sent) q));
@@ -200,7 +200,7 @@ module _ {A : Type 0} (s : Setup) (K : Kind A) (P : Proper s) (t : Tables A) (i 
           ⊎-elim
             (λ z. absurd (no-q z))
             (λ z. (
-              subst (λ (y : ℕ). T (see w .signed y c)) (o .seat ∙ sym (bit-other i x z)) (sig-here j c o),
+              subst (λ (y : ℕ). T (see w .signed y c)) (o .seat ∙ sym (bit-other i x z)) (signed-here j c o),
               subst T (sym (held-same (c * s .n + j))) (subst (λ (y : ℕ). T (received-at s t y c .held)) (sym (o .seat))
                 (both-l (received-at s t i c .held) (valid K t c) (held-here c (record { x = o .x; below = o .below; passes = o .passes; block = o .block; seat = refl })))),
             ))
