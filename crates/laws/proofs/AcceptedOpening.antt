@@ -34,6 +34,7 @@ passed false x f e = absurd (subst is-err e tt)
     is-err (Ok u) = ⊥
     is-err (Err g) = Unit {0}
 
+-- what was tested
 pub record Accepted (b : Bench) (m : Ranking) : Type 0 where
   pub delay : 1 ≤ b .delay
   pub rounds : 1 ≤ b .rounds
@@ -41,6 +42,7 @@ pub record Accepted (b : Bench) (m : Ranking) : Type 0 where
   pub seats : m .seats ≡ b .n
   pub covered : b .rounds ≤ m .rounds
 
+-- by the tests of an opening, one after the other
 pub accepted : {A : Type 0} (b : Bench) (m : Ranking) (t : Tables A) → open-answer b m t ≡ Ok tt → Accepted b m
 unfolding open-answer
 accepted b m t e = record {
@@ -96,6 +98,7 @@ rank-is b m law a r i p top li =
         go true false z p q w = absurd q
         go false y z p q w = absurd p
 
+-- with a roster and a lawful beacon the setup is proper
 pub proper : (ro : Roster) (m : Ranking) (delay rounds editions q : ℕ) → Lawful m → ones (ro .marks) < q → q + ones (ro .marks) ≤ ro .n
   → Accepted (bench-of ro delay rounds editions q) m → Proper (setup-with (bench-of ro delay rounds editions q) (order-rows m rounds))
 proper ro m delay rounds editions q law some enough a = record {

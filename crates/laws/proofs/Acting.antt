@@ -32,13 +32,16 @@ module _ {A : Type 0} (s : Setup) (K : Kind A) (P : Proper s) (idles : Idle-foll
     pub clock : u .clock ≡ t .clock
     pub received : (j c : ℕ) → j < s .n → (j ≡ i → ⊥) → received-at s u j c ≡ received-at s t j c
     pub seats : (j : ℕ) → (j ≡ i → ⊥) → seat-at u j ≡ seat-at t j
-    pub certificates : (j r : ℕ) → j < s .n → r < s .rounds → (j ≡ i → ⊥) → getD (u .certificates) (j * s .rounds + r) no-certificate ≡ getD (t .certificates) (j * s .rounds + r) no-certificate
+    pub certificates : (j r : ℕ) → j < s .n → r < s .rounds → (j ≡ i → ⊥) → getD (u .certificates) (j * s .rounds + r) no-certificate
+      ≡ getD (t .certificates) (j * s .rounds + r) no-certificate
 
+  -- Seat i acts: sound tables u come of t by steps, and nothing of another seat changes.
   pub record Acts (i : ℕ) (t u : Tables A) : Type 0 where
     pub sound : Sound s K P idles u
     pub run : Run (terms-of s) (view s K t) (view s K u)
     pub only : Only i t u
 
+  -- one act after another
   pub only-then : {i : ℕ} {t u v : Tables A} → Only i t u → Only i u v → Only i t v
   only-then a b = record {
     clock = b .clock ∙ a .clock;
@@ -50,6 +53,7 @@ module _ {A : Type 0} (s : Setup) (K : Kind A) (P : Proper s) (idles : Idle-foll
   pub acts-then : {i : ℕ} {t u v : Tables A} → Acts i t u → Acts i u v → Acts i t v
   acts-then a b = record { sound = b .sound; run = run-then (a .run) (b .run); only = only-then (a .only) (b .only) }
 
+  -- nothing happens
   pub acts-none : {i : ℕ} {t : Tables A} → Sound s K P idles t → Acts i t t
   acts-none f = record { sound = f; run = start; only = record { clock = refl; received = λ j c l n. refl; seats = λ j n. refl; certificates = λ j r l m n. refl } }
 
@@ -61,7 +65,8 @@ module _ {A : Type 0} (s : Setup) (K : Kind A) (P : Proper s) (idles : Idle-foll
     pub sound-received : (h : List ReceivedRow) → length h ≡ length (t .received) → Run (terms-of s) v (view s K (with-received t h)) → Sound s K P idles (with-received t h)
     sound-received h e r = record {
       run = run-then (f .run) r;
-      sized = record { blocks = f .sized .blocks; records = f .sized .records; drafts = f .sized .drafts; seats = f .sized .seats; received = e ∙ f .sized .received; votes = f .sized .votes; certificates = f .sized .certificates };
+      sized = record { blocks = f .sized .blocks; records = f .sized .records; drafts = f .sized .drafts; seats = f .sized .seats; received = e
+          ∙ f .sized .received; votes = f .sized .votes; certificates = f .sized .certificates };
       phase = f .phase;
       low = f .low;
       sealed = λ i r h l. record { signed = f .sealed i r h l .signed; quorum = f .sealed i r h l .quorum };
@@ -69,20 +74,24 @@ module _ {A : Type 0} (s : Setup) (K : Kind A) (P : Proper s) (idles : Idle-foll
     }
 
     -- other votes and holdings
-    pub sound-votes : (x : List VoteRow) (h : List ReceivedRow) → length x ≡ length (t .votes) → length h ≡ length (t .received) → Step (terms-of s) v (view s K (with-votes t x h)) → Sound s K P idles (with-votes t x h)
+    pub sound-votes : (x : List VoteRow) (h : List ReceivedRow) → length x ≡ length (t .votes) → length h ≡ length (t .received)
+      → Step (terms-of s) v (view s K (with-votes t x h)) → Sound s K P idles (with-votes t x h)
     sound-votes x h d e st = record {
       run = next (f .run) st;
-      sized = record { blocks = f .sized .blocks; records = f .sized .records; drafts = f .sized .drafts; seats = f .sized .seats; received = e ∙ f .sized .received; votes = d ∙ f .sized .votes; certificates = f .sized .certificates };
+      sized = record { blocks = f .sized .blocks; records = f .sized .records; drafts = f .sized .drafts; seats = f .sized .seats; received = e
+          ∙ f .sized .received; votes = d ∙ f .sized .votes; certificates = f .sized .certificates };
       phase = f .phase;
       low = f .low;
-      sealed = λ i r h l. record { signed = λ y q. st .signed-stays y (certificate-at s t i (suc r) .block) (f .sealed i r h l .signed y q); quorum = f .sealed i r h l .quorum };
+      sealed = λ i r h l. record { signed = λ y q. st .signed-stays y (certificate-at s t i (suc r) .block) (f .sealed i r h l .signed y q);
+          quorum = f .sealed i r h l .quorum };
       ahead = f .ahead
     }
 
     pub sound-drafts : (x : List (Option A)) → length x ≡ length (t .drafts) → Sound s K P idles (with-drafts t x)
     sound-drafts x e = record {
       run = f .run;
-      sized = record { blocks = f .sized .blocks; records = f .sized .records; drafts = e ∙ f .sized .drafts; seats = f .sized .seats; received = f .sized .received; votes = f .sized .votes; certificates = f .sized .certificates };
+      sized = record { blocks = f .sized .blocks; records = f .sized .records; drafts = e ∙ f .sized .drafts; seats = f .sized .seats;
+          received = f .sized .received; votes = f .sized .votes; certificates = f .sized .certificates };
       phase = f .phase;
       low = f .low;
       sealed = λ i r h l. record { signed = f .sealed i r h l .signed; quorum = f .sealed i r h l .quorum };
@@ -92,7 +101,8 @@ module _ {A : Type 0} (s : Setup) (K : Kind A) (P : Proper s) (idles : Idle-foll
     -- seat j takes in block b
     pub taken : (j b : ℕ) → j < s .n → T (v .made b) → Taken s K P t (t .received) (take-in (s .n) (block-round s b) (t .blocks) (t .received) j b) j b
     taken j b l q = takes s K P t (blocks-of s K P idles t f .parent-made) (blocks-of s K P idles t f .parent-round) (λ b x. blocks-of s K P idles t f .carried-signed b x) j l
-        (λ c m. omega (arith, f .sized .received, row-room s P c j (made-room s K P idles t f c m) l)) (block-round s b) (t .received) b refl (root-held s K P idles t f j l) q refl
+        (λ c m. omega (arith, f .sized .received, row-room s P c j (made-room s K P idles t f c m) l)) (block-round s b) (t .received) b refl
+            (root-held s K P idles t f j l) q refl
 
     pub take-acts : (j b : ℕ) → j < s .n → T (v .made b) → Acts j t (takes-in s t j b)
     take-acts j b l q = let x = taken j b l q in record {
@@ -110,13 +120,15 @@ module _ {A : Type 0} (s : Setup) (K : Kind A) (P : Proper s) (idles : Idle-foll
           run = next start st;
           only = record {
             clock = refl;
-            received = λ i c li n. getD-set-other (t .received) (b * s .n + j) (c * s .n + i) (receive-row m (received-at s t j b)) nothing-received (λ e. n (row-one (s .n) c b i j li l e .1));
+            received = λ i c li n. getD-set-other (t .received) (b * s .n + j) (c * s .n + i) (receive-row m (received-at s t j b)) nothing-received
+                (λ e. n (row-one (s .n) c b i j li l e .1));
             seats = λ i n. refl; certificates = λ i r l m n. refl
           }
         }
 
   -- a seat that did not act stays as calm as it was
-  pub others-untouched : (i : ℕ) (t u : Tables A) → Sound s K P idles t → Acts i t u → (j : ℕ) → T (honest s j) → (j ≡ i → ⊥) → Untouched (terms-of s) (view s K t) (view s K u) j
+  pub others-untouched : (i : ℕ) (t u : Tables A) → Sound s K P idles t → Acts i t u → (j : ℕ) → T (honest s j) → (j ≡ i → ⊥)
+    → Untouched (terms-of s) (view s K t) (view s K u) j
   others-untouched i t u f g j h n = record {
     clock = g .only .clock;
     waiting = ap (λ a. is-waiting (a .phase)) (g .only .seats j n);

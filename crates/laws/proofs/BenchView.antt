@@ -23,6 +23,7 @@ pub record Proper (s : Setup) : Type 0 where
   pub honest-enough : s .quorum + ones (s .marks) ≤ s .n
   pub orders : (r : ℕ) → 1 ≤ r → r ≤ s .rounds → Order (s .n) (rank-at s r)
 
+-- the terms that the laws over views speak of
 abbrev pub terms-of : Setup → Terms
 terms-of s = record {
   seats = s .n;
@@ -37,6 +38,7 @@ terms-of s = record {
   seat-of-rank = λ r m. seat-of-rank (s .n) (rank-at s r) m
 }
 
+-- the tables, seen: each function of the view reads one row
 abbrev pub view : {A : Type 0} → Setup → Kind A → Tables A → View
 view s K t = record {
   clock = t .clock;

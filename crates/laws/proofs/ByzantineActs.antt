@@ -15,5 +15,6 @@ module _ {A : Type 0} (s : Setup) (K : Kind A) (P : Proper s) (idles : Idle-foll
   pub outside : (i : ℕ) (t u : Tables A) → Settled s K P idles t → (T (honest s i) → ⊥) → Acts s K P idles i t u → Settles s K P idles t u
   outside i t u z bad g = record { run = g .run; settled = record {
     sound = g .sound;
-    calm = λ j h. still-calm (terms-of s) (view s K t) (view s K u) j (others-untouched s K P idles i t u (z .sound) g j h (λ e. bad (subst (λ (y : ℕ). T (honest s y)) e h))) (z .calm j h)
+    calm = λ j h. still-calm (terms-of s) (view s K t) (view s K u) j (others-untouched s K P idles i t u (z .sound) g j h
+        (λ e. bad (subst (λ (y : ℕ). T (honest s y)) e h))) (z .calm j h)
   } }

@@ -34,7 +34,8 @@ use Rattle.laws.proofs.Settled.{Settled, Settles, either, same}
 
 module _ {A : Type 0} (s : Setup) (K : Kind A) (P : Proper s) (idles : Idle-follows K) where
   -- an honest seat has taken something in, and reacts
-  reacts : (j : ℕ) (t : Tables A) (h : List ReceivedRow) → Settled s K P idles t → T (honest s j) → Acts s K P idles j t (with-received t h) → Settles s K P idles t (react s K (with-received t h) j)
+  reacts : (j : ℕ) (t : Tables A) (h : List ReceivedRow) → Settled s K P idles t → T (honest s j) → Acts s K P idles j t (with-received t h)
+    → Settles s K P idles t (react s K (with-received t h) j)
   reacts j t h z hj g =
       let r = react-acts s K P idles (with-received t h) (g .sound) j hj (z .calm j hj .waiting) in
       let all = acts-then s K P idles g (r .0) in
@@ -46,6 +47,7 @@ module _ {A : Type 0} (s : Setup) (K : Kind A) (P : Proper s) (idles : Idle-foll
       each i hi all c (yes e) = subst (Calm (terms-of s) (view s K u)) (sym e) c
       each i hi all c (no e) = still-calm (terms-of s) (view s K t) (view s K u) i (others-untouched s K P idles j t u (z .sound) all i hi e) (z .calm i hi)
 
+  -- an offer
   pub offer-settles : (i : ℕ) (d : A) (t : Tables A) → Settled s K P idles t → Settles s K P idles t (offer s K i d t .tables)
   unfolding offer
   offer-settles i d t z =
@@ -55,12 +57,14 @@ module _ {A : Type 0} (s : Setup) (K : Kind A) (P : Proper s) (idles : Idle-foll
       either s K P idles Q (ltb i (s .n)) x1 (refused NoSuchSeat t)
       (λ e. either s K P idles Q (honest s i) x2 (refused SeatIsByzantine t)
       (λ e. either s K P idles Q (fits s t) x3 (refused TableLength t)
-        (λ e. record { run = start; settled = record { sound = sound-drafts s K P idles t (z .sound) (set (t .drafts) i (Some d)) (length-set (t .drafts) i (Some d)); calm = λ j h. record { waiting = z .calm j h .waiting; voting = z .calm j h .voting; done = z .calm j h .done } } })
+        (λ e. record { run = start; settled = record { sound = sound-drafts s K P idles t (z .sound) (set (t .drafts) i (Some d))
+            (length-set (t .drafts) i (Some d)); calm = λ j h. record { waiting = z .calm j h .waiting; voting = z .calm j h .voting; done = z .calm j h .done } } })
       (λ e. same s K P idles z)) (λ e. same s K P idles z)) (λ e. same s K P idles z)
     where
       Q : Outcome A → Type 0
       Q o = Settles s K P idles t (o .tables)
 
+  -- a block
   pub block-settles : (j b : ℕ) (t : Tables A) → Settled s K P idles t → Settles s K P idles t (deliver-block s K j b t .tables)
   unfolding deliver-block
   block-settles j b t z =
@@ -87,6 +91,7 @@ module _ {A : Type 0} (s : Setup) (K : Kind A) (P : Proper s) (idles : Idle-foll
       let a = take-acts s K P idles t f j b l made in
       acts-then s K P idles a (receive-acts s K P idles (takes-in s t j b) (a .sound) j b m l made (taken s K P idles t f j b l made .held) signed-there)
 
+  -- a vote
   pub vote-settles : (i j b : ℕ) (t : Tables A) → Settled s K P idles t → Settles s K P idles t (deliver-vote s K i j b t .tables)
   unfolding deliver-vote
   vote-settles i j b t z =
@@ -111,6 +116,7 @@ module _ {A : Type 0} (s : Setup) (K : Kind A) (P : Proper s) (idles : Idle-foll
       Q : Outcome A → Type 0
       Q o = Settles s K P idles t (o .tables)
 
+  -- a certificate that was sent
   sent-settles : (i j r : ℕ) (t : Tables A) → Settled s K P idles t → T (honest s j) → Settles s K P idles t (deliver-sent s K i j r t .tables)
   sent-settles i j r t z h =
       let x2 = done (react s K (receives s (takes-in s t j c) j c m) j) in
@@ -122,7 +128,8 @@ module _ {A : Type 0} (s : Setup) (K : Kind A) (P : Proper s) (idles : Idle-foll
           let lt = ltb→lt (suc r) (seat-at t i .round) (both-r (honest s i) (ltb (suc r) (seat-at t i .round)) (yes-T e)) in
           let g = timing-of s K P idles t (z .sound) in
           let held = notarisation-held (terms-of s) (lawful s P) (view s K t) g (few s P) i c hi (g .past i (suc r) hi (omega arith) lt .left-by-notarised) in
-          reacts j t (receives s (takes-in s t j c) j c m .received) z h (hold-receive j c m t (z .sound) (honest-below s j h) (g .holding i c hi held .made) (z .sound .sealed i r hi lt .signed))))
+          reacts j t (receives s (takes-in s t j c) j c m .received) z h (hold-receive j c m t (z .sound) (honest-below s j h) (g .holding i c hi held .made)
+              (z .sound .sealed i r hi lt .signed))))
       (λ e. same s K P idles z)
     where
       c : ℕ
@@ -132,6 +139,7 @@ module _ {A : Type 0} (s : Setup) (K : Kind A) (P : Proper s) (idles : Idle-foll
       Q : Outcome A → Type 0
       Q o = Settles s K P idles t (o .tables)
 
+  -- a certificate
   pub certificate-settles : (i j r : ℕ) (t : Tables A) → Settled s K P idles t → Settles s K P idles t (deliver-certificate s K i j r t .tables)
   unfolding deliver-certificate
   certificate-settles i j r t z =
@@ -145,7 +153,8 @@ module _ {A : Type 0} (s : Setup) (K : Kind A) (P : Proper s) (idles : Idle-foll
       (λ lj. either s K P idles Q (honest s j) x3 (refused SeatIsByzantine t)
       (λ h. either s K P idles Q (fits s t) x4 (refused TableLength t)
       (λ e. either s K P idles Q (cond (ltb 0 r) (leb r (s .rounds)) false) x5 (refused NeverSent t)
-      (λ e. sent-settles i j (r - 1) t z (yes-T h)) (λ e. same s K P idles z)) (λ e. same s K P idles z)) (λ e. same s K P idles z)) (λ e. same s K P idles z)) (λ e. same s K P idles z)
+      (λ e. sent-settles i j (r - 1) t z (yes-T h)) (λ e. same s K P idles z)) (λ e. same s K P idles z)) (λ e. same s K P idles z)) (λ e. same s K P idles z))
+          (λ e. same s K P idles z)
     where
       Q : Outcome A → Type 0
       Q o = Settles s K P idles t (o .tables)

@@ -100,8 +100,10 @@ module _ {A : Type 0} (s : Setup) (K : Kind A) (P : Proper s) (idles : Idle-foll
       wakes-acts = record {
         sound = record {
           run = next (f .run) st′;
-          sized = record { blocks = f .sized .blocks; records = f .sized .records; drafts = f .sized .drafts; seats = length-set (t .seats) i new ∙ f .sized .seats; received = f .sized .received; votes = f .sized .votes; certificates = f .sized .certificates };
-          phase = λ j hj. ⊎-elim (λ e. subst (λ a. Phase-fits s (a .phase) (a .round)) (sym (e .1)) phase-new) (λ e. subst (λ a. Phase-fits s (a .phase) (a .round)) (sym e) (f .phase j hj)) (seat-case j);
+          sized = record { blocks = f .sized .blocks; records = f .sized .records; drafts = f .sized .drafts; seats = length-set (t .seats) i new ∙ f .sized .seats;
+              received = f .sized .received; votes = f .sized .votes; certificates = f .sized .certificates };
+          phase = λ j hj. ⊎-elim (λ e. subst (λ a. Phase-fits s (a .phase) (a .round)) (sym (e .1)) phase-new)
+              (λ e. subst (λ a. Phase-fits s (a .phase) (a .round)) (sym e) (f .phase j hj)) (seat-case j);
           low = λ j hj. ⊎-elim (λ e. subst (λ a. 1 ≤ block-round s (a .head) → block-round s (a .head) + 2 ≤ a .round) (sym (e .1)) (head-low s K P idles t f i h))
             (λ e. subst (λ a. 1 ≤ block-round s (a .head) → block-round s (a .head) + 2 ≤ a .round) (sym e) (f .low j hj)) (seat-case j);
           sealed = λ j r hj l. let old = f .sealed j r hj (omega (arith, l, round-same j)) in record { signed = old .signed; quorum = old .quorum };

@@ -81,15 +81,18 @@ module _ {A : Type 0} (b : Bench) (m : Ranking) (K : Kind A) (idles : Idle-follo
     pub settled : Settled s K P idles t
     pub setup : setup-at b t ≡ s
 
+  -- the opening itself
   pub opened-reached : Reached (opened b m K)
   opened-reached = record { settled = opened-settled s K P idles; setup = ap (setup-with b) orders }
     where
       orders : opened-tables s K .orders ≡ order-rows m (b .rounds)
       orders = opened-orders s K
 
+  -- any calls after it
   pub after-reached : (cs : List (Call A)) (t : Tables A) → Reached t → Reached (after b K cs t)
   after-reached cs t r = let q = after-settles s K P idles b cs t (r .setup) (r .settled) in record { settled = q .0 .settled; setup = q .1 }
 
+  -- the laws, over any calls and any further calls
   pub laws-after : (cs ds : List (Call A)) → Laws-after b m K cs ds
   laws-after cs ds =
       let t = after b K cs (opened b m K) in
@@ -97,12 +100,14 @@ module _ {A : Type 0} (b : Bench) (m : Ranking) (K : Kind A) (idles : Idle-follo
       let q = after-settles s K P idles b ds t (rt .setup) (rt .settled) in
       laws-at t (after b K ds t) (rt .settled .sound) (q .0 .settled .sound) (q .0 .run) (q .1)
 
+-- The theorem.
 pub no-run-splits-the-record : {A : Type 0} (K : Kind A) → Idle-follows K → No-run-splits-the-record K
 no-run-splits-the-record K idles ro m delay rounds editions q lent law some enough ok cs ds =
     let b = bench-of ro delay rounds editions q in
     let a = accepted b m lent ok in
     laws-after b m K idles law a (proper ro m delay rounds editions q law some enough a) cs ds
 
+-- fewer than half of the seats are Byzantine: the majority is such a quorum
 pub no-majority-run-splits-the-record : {A : Type 0} (K : Kind A) → Idle-follows K → No-majority-run-splits-the-record K
 no-majority-run-splits-the-record K idles ro m delay rounds editions lent law ok cs ds =
     no-run-splits-the-record K idles ro m delay rounds editions (majority-of (ro .n)) lent law

@@ -34,6 +34,7 @@ module _ {A : Type 0} (s : Setup) (K : Kind A) (P : Proper s) (idles : Idle-foll
       let z = m .parent-round (suc c) made pos in
       record { back = suc (y .back); rounds = omega (arith, y .rounds, z); there = y .there }
 
+  -- a final block, as the laws over views have it, and back
   pub final-on : (i b : ℕ) → T (honest s i) → (d : ℕ) × (ancestor parent d (seat-at t i .head) ≡ b) → Final-at (terms-of s) (view s K t) i b
   final-on i b h x = ancestor-on (x .0) (seat-at t i .head) b
       (head-made (terms-of s) (lawful s P) (view s K t) (timing-of s K P idles t f) (blocks-of s K P idles t f) i h) (x .1)

@@ -54,7 +54,8 @@ module _ {A : Type 0} (s : Setup) (K : Kind A) (P : Proper s) (idles : Idle-foll
         let past = timing-of s K P idles t f .past i (round - 1) h (omega arith) (omega (arith, e)) in
         let c = v .left-by i (round - 1) in
         let held = notarisation-held (terms-of s) (lawful s P) v (timing-of s K P idles t f) (few s P) i c h (past .left-by-notarised) in
-        let ok = notarised-valid (terms-of s) (lawful s P) v (timing-of s K P idles t f) (few s P) c (notarisation-real (terms-of s) (lawful s P) v (timing-of s K P idles t f) (few s P) i c h (past .left-by-notarised)) .1 in
+        let ok = notarised-valid (terms-of s) (lawful s P) v (timing-of s K P idles t f) (few s P) c
+            (notarisation-real (terms-of s) (lawful s P) v (timing-of s K P idles t f) (few s P) i c h (past .left-by-notarised)) .1 in
         (c, omega (arith, e, past .left-by-round), both (received-at s t i c .held) (valid K t c) held ok)
 
     head-choice : Kept (next-head s K t i) ⊎ Moved (next-head s K t i)
@@ -78,7 +79,8 @@ module _ {A : Type 0} (s : Setup) (K : Kind A) (P : Proper s) (idles : Idle-foll
         C x = Kept x ⊎ Moved x
         other : ℕ → ℕ → Bool
         other c x = cond (holds-valid s K t i x) (not (eqb (parent x) (parent c))) false
-        third : 3 ≤ round → (c : ℕ) → First (holds-valid s K t i) start′ (round-width s) c → (x : Option ℕ) → first-from (other c) start′ (round-width s) ≡ x → C (cond (is-some x) (seat-at t i .head) (parent c))
+        third : 3 ≤ round → (c : ℕ) → First (holds-valid s K t i) start′ (round-width s) c → (x : Option ℕ) → first-from (other c) start′ (round-width s) ≡ x
+          → C (cond (is-some x) (seat-at t i .head) (parent c))
         third l c y None e = inr (record {
           third = l;
           from = c;
@@ -87,16 +89,19 @@ module _ {A : Type 0} (s : Setup) (K : Kind A) (P : Proper s) (idles : Idle-foll
           is = refl;
           all = λ d q round-is. ⊎-elim
             (λ z. eqb→eq (parent d) (parent c) (yes-T z))
-            (λ z. let o = range l d round-is in absurd (first-none (other c) start′ (round-width s) d e (o .0) (o .1) (both (holds-valid s K t i d) (not (eqb (parent d) (parent c))) q (not-T (eqb (parent d) (parent c)) (no-T z)))))
+            (λ z. let o = range l d round-is in absurd (first-none (other c) start′ (round-width s) d e (o .0) (o .1)
+                (both (holds-valid s K t i d) (not (eqb (parent d) (parent c))) q (not-T (eqb (parent d) (parent c)) (no-T z)))))
             (split (eqb (parent d) (parent c)))
         })
         third l c y (Some d) e =
             let z = first-some (other c) start′ (round-width s) d e in
             let q = both-l (holds-valid s K t i d) (not (eqb (parent d) (parent c))) (z .passes) in
             inl (refl, λ l′ p all. T-not (eqb (parent d) (parent c)) (both-r (holds-valid s K t i d) (not (eqb (parent d) (parent c))) (z .passes))
-              (subst (λ (x : ℕ). T (eqb (parent d) x)) (all d q (ranged l d (z .from) (z .to)) ∙ sym (all c (y .passes) (ranged l c (y .from) (y .to)))) (eqb-refl (parent d))))
+              (subst (λ (x : ℕ). T (eqb (parent d) x)) (all d q (ranged l d (z .from) (z .to)) ∙ sym (all c (y .passes) (ranged l c (y .from) (y .to))))
+                  (eqb-refl (parent d))))
         second : 3 ≤ round → (x : Option ℕ) → first-from (holds-valid s K t i) start′ (round-width s) ≡ x → C (head-from s K t i R′ (seat-at t i .head) x)
-        second l None e = let c = candidate (omega arith) in let o = range l (c .0) (c .1) in absurd (first-none (holds-valid s K t i) start′ (round-width s) (c .0) e (o .0) (o .1) (c .2))
+        second l None e = let c = candidate (omega arith) in let o = range l (c .0) (c .1) in absurd
+            (first-none (holds-valid s K t i) start′ (round-width s) (c .0) e (o .0) (o .1) (c .2))
         second l (Some c) e = third l c (first-some (holds-valid s K t i) start′ (round-width s) c e) (first-from (other c) start′ (round-width s)) refl
         go : (b : Bool) → leb 3 round ≡ b → C (cond b (head-from s K t i R′ (seat-at t i .head) (first-from (holds-valid s K t i) start′ (round-width s))) (seat-at t i .head))
         go true e = second (leb→le 3 round (yes-T e)) (first-from (holds-valid s K t i) start′ (round-width s)) refl
@@ -142,6 +147,7 @@ module _ {A : Type 0} (s : Setup) (K : Kind A) (P : Proper s) (idles : Idle-foll
         (λ e. absurd (e .1 l p (λ c q round-is. all c (both-l (received-at s t i c .held) (valid K t c) q) (both-r (received-at s t i c .held) (valid K t c) q) round-is)))
         (λ m.
           let q = m .from-good in
-          let is : next-head s K t i ≡ p = m .is ∙ all (m .from) (both-l (received-at s t i (m .from) .held) (valid K t (m .from)) q) (both-r (received-at s t i (m .from) .held) (valid K t (m .from)) q) (m .from-round) in
+          let is : next-head s K t i ≡ p = m .is ∙ all (m .from) (both-l (received-at s t i (m .from) .held) (valid K t (m .from)) q)
+              (both-r (received-at s t i (m .from) .held) (valid K t (m .from)) q) (m .from-round) in
           record { back = 0; rounds = omega (arith, ap (block-round s) is); there = is })
         head-choice

@@ -32,6 +32,7 @@ module _ {A : Type 0} (b : Bench) (t : Tables A) (now : No-long-stay b t) (befor
   entered-by zero l = omega arith
   entered-by (suc r) l = omega (arith, entered-by r (omega arith), before i (suc r) h (omega arith) l)
 
+  -- after the last tick of round r the seat is past it
   pub past-by : (r : ℕ) → r ≤ b .rounds → last-tick-in b r < t .clock → 1 ≤ seat-at t i .round → r < seat-at t i .round
   past-by r top late pos = go (decLe (suc r) (seat-at t i .round))
     where
@@ -62,6 +63,7 @@ module _ {A : Type 0} (b : Bench) (m : Ranking) (K : Kind A) (idles : Idle-follo
       let same = ap (λ (y : Setup). entered-at y t i (seat-at t i .round)) (r .setup) in
       omega (arith, same, calm .waiting (subst (λ (p : Phase). T (is-waiting p)) (sym w) tt))
 
+  -- all deadlines
   pub in-time : Laws b m K t t → In-time b m t
   in-time x = record {
     waits-end = waits-end;
@@ -83,6 +85,7 @@ module _ {A : Type 0} (b : Bench) (m : Ranking) (K : Kind A) (idles : Idle-follo
           go (yes e) = inr (e, n e)
           go (no d) = inl (omega (arith, d))
 
+-- in every run
 pub every-run-is-in-time : {A : Type 0} (K : Kind A) → Idle-follows K → Every-run-is-in-time K
 unfolding after
 every-run-is-in-time K idles ro m delay rounds editions q lent law some enough ok cs =

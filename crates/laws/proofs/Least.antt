@@ -12,9 +12,11 @@ use Rattle.laws.proofs.Tests.{no-T, yes-T}
 
 -- a running minimum
 module _ (p : ℕ → Bool) (g : ℕ → ℕ) where
+  -- starting from z
   abbrev pub least : ℕ → ℕ → ℕ
   least z m = upto (λ x low. cond (p x) (cond (ltb (g x) low) (g x) low) low) z m
 
+  -- v is the least of z and of the values that pass
   pub record Least (z m v : ℕ) : Type 0 where
     pub start : v ≤ z
     pub below : (x : ℕ) → x < m → T (p x) → v ≤ g x

@@ -100,7 +100,8 @@ module _ {A : Type 0} (s : Setup) (K : Kind A) (P : Proper s) (idles : Idle-foll
       certificate-new = getD-set-same (u .certificates) (i * s .rounds + r) crow no-certificate len-c
 
       -- a row of another seat, or of another round
-      certificate-other : (j x : ℕ) → j < s .n → x < s .rounds → ((j ≡ i) → (x ≡ r) → ⊥) → getD (w .certificates) (j * s .rounds + x) no-certificate ≡ getD (t .certificates) (j * s .rounds + x) no-certificate
+      certificate-other : (j x : ℕ) → j < s .n → x < s .rounds → ((j ≡ i) → (x ≡ r) → ⊥)
+        → getD (w .certificates) (j * s .rounds + x) no-certificate ≡ getD (t .certificates) (j * s .rounds + x) no-certificate
       unfolding crow
       certificate-other j x lj lx d = getD-set-other (u .certificates) (i * s .rounds + r) (j * s .rounds + x) crow no-certificate
           (λ e. let o = row-one (s .rounds) j i x r lx top e in d (o .0) (o .1)) ∙ ap (λ z. getD z (j * s .rounds + x) no-certificate) (y .certificates)
@@ -125,7 +126,8 @@ module _ {A : Type 0} (s : Setup) (K : Kind A) (P : Proper s) (idles : Idle-foll
           let e = certificate-other j x (honest-below s j hj) (omega (arith, timing-of s K P idles t f .round-top j hj)) d in
           let old = f .sealed j x hj l in
           record {
-            signed = λ z q. subst (λ a. T (view s K w .signed z (a .block))) (sym e) (signed-w z (certificate-at s t j (suc x) .block) (old .signed z (subst (λ a. T (bit (a .signers) z)) e q)));
+            signed = λ z q. subst (λ a. T (view s K w .signed z (a .block))) (sym e)
+                (signed-w z (certificate-at s t j (suc x) .block) (old .signed z (subst (λ a. T (bit (a .signers) z)) e q)));
             quorum = subst (λ a. s .quorum ≤ count (s .n) (bit (a .signers))) (sym e) (old .quorum)
           }
 

@@ -68,12 +68,14 @@ module _ {A : Type 0} (s : Setup) (K : Kind A) (P : Proper s) where
       crow = record { block = c; signers = m; tick = t .clock }
       seat′ : (x : ℕ) → ((x ≡ i) × (seat-at w x ≡ srow)) ⊎ (seat-at w x ≡ seat-at t x)
       seat′ x = set-cases (t .seats) i srow no-seat len-s x
-      certificate-case : (x : ℕ) → ((x ≡ i * s .rounds + r) × (getD (w .certificates) x no-certificate ≡ crow)) ⊎ (getD (w .certificates) x no-certificate ≡ getD (t .certificates) x no-certificate)
+      certificate-case : (x : ℕ) → ((x ≡ i * s .rounds + r) × (getD (w .certificates) x no-certificate ≡ crow))
+        ⊎ (getD (w .certificates) x no-certificate ≡ getD (t .certificates) x no-certificate)
       certificate-case x = set-cases (t .certificates) (i * s .rounds + r) crow no-certificate len-c x
       here : getD (w .certificates) (i * s .rounds + r) no-certificate ≡ crow
       here = getD-set-same (t .certificates) (i * s .rounds + r) crow no-certificate len-c
       -- a row of an earlier round is another row
-      other : (j x : ℕ) → T (honest s j) → suc (suc x) ≤ see t .round j → getD (w .certificates) (j * s .rounds + x) no-certificate ≡ getD (t .certificates) (j * s .rounds + x) no-certificate
+      other : (j x : ℕ) → T (honest s j) → suc (suc x) ≤ see t .round j → getD (w .certificates) (j * s .rounds + x) no-certificate
+        ≡ getD (t .certificates) (j * s .rounds + x) no-certificate
       other j x h l = ⊎-elim
           (λ e.
             let o = row-one (s .rounds) j i x r (omega (arith, tops j h)) top (e .0) in

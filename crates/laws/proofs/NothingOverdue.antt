@@ -35,11 +35,13 @@ module _ {A : Type 0} (s : Setup) (K : Kind A) (P : Proper s) (idles : Idle-foll
 
     no-block-late : any (λ b. block-overdue s t b) (block-rows s) ≡ false
     unfolding overdue
-    no-block-late = neither (any (λ b. block-overdue s t b) (block-rows s)) (cond (any (λ b. any (vote-overdue s t b) (s .n)) (block-rows s)) true (any (λ i. any (certificate-overdue s t i) (s .rounds)) (s .n))) quiet .0
+    no-block-late = neither (any (λ b. block-overdue s t b) (block-rows s))
+        (cond (any (λ b. any (vote-overdue s t b) (s .n)) (block-rows s)) true (any (λ i. any (certificate-overdue s t i) (s .rounds)) (s .n))) quiet .0
 
     no-rest : cond (any (λ b. any (vote-overdue s t b) (s .n)) (block-rows s)) true (any (λ i. any (certificate-overdue s t i) (s .rounds)) (s .n)) ≡ false
     unfolding overdue
-    no-rest = neither (any (λ b. block-overdue s t b) (block-rows s)) (cond (any (λ b. any (vote-overdue s t b) (s .n)) (block-rows s)) true (any (λ i. any (certificate-overdue s t i) (s .rounds)) (s .n))) quiet .1
+    no-rest = neither (any (λ b. block-overdue s t b) (block-rows s)) (cond (any (λ b. any (vote-overdue s t b) (s .n)) (block-rows s)) true
+        (any (λ i. any (certificate-overdue s t i) (s .rounds)) (s .n))) quiet .1
 
     no-vote-late : any (λ b. any (vote-overdue s t b) (s .n)) (block-rows s) ≡ false
     no-vote-late = neither (any (λ b. any (vote-overdue s t b) (s .n)) (block-rows s)) (any (λ i. any (certificate-overdue s t i) (s .rounds)) (s .n)) no-rest .0
@@ -55,7 +57,8 @@ module _ {A : Type 0} (s : Setup) (K : Kind A) (P : Proper s) (idles : Idle-foll
         (holds (has j))
 
     -- so a block of an honest seat has reached all in time
-    pub blocks-due : (i r : ℕ) → T (honest s i) → 1 ≤ r → r ≤ seat-at t i .round → r ≤ s .rounds → entered-at s t i r + s .delay ≤ suc (t .clock) → (j : ℕ) → T (honest s j) → T (v .held j (own-block s i r))
+    pub blocks-due : (i r : ℕ) → T (honest s i) → 1 ≤ r → r ≤ seat-at t i .round → r ≤ s .rounds → entered-at s t i r + s .delay ≤ suc (t .clock) → (j : ℕ)
+      → T (honest s j) → T (v .held j (own-block s i r))
     blocks-due i r h pos le top due = all-have (λ j. received-at s t j b .held) none
       where
         b : ℕ
@@ -67,15 +70,19 @@ module _ {A : Type 0} (s : Setup) (K : Kind A) (P : Proper s) (idles : Idle-foll
         round-is : block-round s b ≡ r
         round-is = own-round s P i r (honest-below s i h) pos
         late′ : T (late s t (entered-at s t (block-owner s b) (block-round s b)))
-        late′ = subst (λ (x : ℕ). T (late s t (entered-at s t x (block-round s b)))) (sym own) (subst (λ (x : ℕ). T (late s t (entered-at s t i x))) (sym round-is) (le→leb (entered-at s t i r + s .delay) (suc (t .clock)) due))
+        late′ = subst (λ (x : ℕ). T (late s t (entered-at s t x (block-round s b)))) (sym own)
+            (subst (λ (x : ℕ). T (late s t (entered-at s t i x))) (sym round-is) (le→leb (entered-at s t i r + s .delay) (suc (t .clock)) due))
         none : T (any (lacks-block s t b) (s .n)) → ⊥
         none q = any-none (λ b. block-overdue s t b) (block-rows s) no-block-late b (made-room s K P idles t f b made)
-            (both (block-at t b .made) (cond (honest s (block-owner s b)) (cond (late s t (entered-at s t (block-owner s b) (block-round s b))) (any (lacks-block s t b) (s .n)) false) false) made
-              (both (honest s (block-owner s b)) (cond (late s t (entered-at s t (block-owner s b) (block-round s b))) (any (lacks-block s t b) (s .n)) false) (subst (λ (x : ℕ). T (honest s x)) (sym own) h)
+            (both (block-at t b .made) (cond (honest s (block-owner s b)) (cond (late s t (entered-at s t (block-owner s b) (block-round s b)))
+                (any (lacks-block s t b) (s .n)) false) false) made
+              (both (honest s (block-owner s b)) (cond (late s t (entered-at s t (block-owner s b) (block-round s b))) (any (lacks-block s t b) (s .n)) false)
+                  (subst (λ (x : ℕ). T (honest s x)) (sym own) h)
                 (both (late s t (entered-at s t (block-owner s b) (block-round s b))) (any (lacks-block s t b) (s .n)) late′ q)))
 
     -- a vote
-    pub votes-due : (i b : ℕ) → T (honest s i) → T (v .signed i b) → vote-at s t i b .tick + s .delay ≤ suc (t .clock) → (j : ℕ) → T (honest s j) → T (v .held j b) × T (v .received j b i)
+    pub votes-due : (i b : ℕ) → T (honest s i) → T (v .signed i b) → vote-at s t i b .tick + s .delay ≤ suc (t .clock) → (j : ℕ) → T (honest s j)
+      → T (v .held j b) × T (v .received j b i)
     votes-due i b h signed-there due j hj =
         let x = all-have (λ j. has-vote s t i b j) none j hj in
         (both-l (received-at s t j b .held) (bit (received-at s t j b .signers) i) x, both-r (received-at s t j b .held) (bit (received-at s t j b .signers) i) x)
@@ -88,12 +95,14 @@ module _ {A : Type 0} (s : Setup) (K : Kind A) (P : Proper s) (idles : Idle-foll
         none q =
             let row = any-none (λ b. any (vote-overdue s t b) (s .n)) (block-rows s) no-vote-late b (made-room s K P idles t f b made) in
             any-none (vote-overdue s t b) (s .n) (T-no (any (vote-overdue s t b) (s .n)) row) i (honest-below s i h)
-              (both (vote-at s t i b .sent) (cond (honest s i) (cond (late s t (vote-at s t i b .tick)) lack false) false) (both-r (ltb i (s .n)) (vote-at s t i b .sent) signed-there)
+              (both (vote-at s t i b .sent) (cond (honest s i) (cond (late s t (vote-at s t i b .tick)) lack false) false)
+                  (both-r (ltb i (s .n)) (vote-at s t i b .sent) signed-there)
                 (both (honest s i) (cond (late s t (vote-at s t i b .tick)) lack false) h
                   (both (late s t (vote-at s t i b .tick)) lack (le→leb (vote-at s t i b .tick + s .delay) (suc (t .clock)) due) q)))
 
     -- a certificate
-    pub certificates-due : (i r : ℕ) → T (honest s i) → r < seat-at t i .round → 1 ≤ r → entered-at s t i (suc r) + s .delay ≤ suc (t .clock) → (j : ℕ) → T (honest s j) → Notarised-at (terms-of s) v j (v .left-by i r)
+    pub certificates-due : (i r : ℕ) → T (honest s i) → r < seat-at t i .round → 1 ≤ r → entered-at s t i (suc r) + s .delay ≤ suc (t .clock) → (j : ℕ)
+      → T (honest s j) → Notarised-at (terms-of s) v j (v .left-by i r)
     certificates-due i zero h lt pos due j hj = absurd (omega arith)
     certificates-due i (suc r) h lt pos due j hj = le-trans (f .sealed i r h lt .quorum) (count-mono (s .n) (bit m) (v .received j c) inside)
       where
@@ -107,7 +116,8 @@ module _ {A : Type 0} (s : Setup) (K : Kind A) (P : Proper s) (idles : Idle-foll
         none q =
             let row = any-none (λ i. any (certificate-overdue s t i) (s .rounds)) (s .n) no-cert′ i (honest-below s i h) in
             any-none (certificate-overdue s t i) (s .rounds) (T-no (any (certificate-overdue s t i) (s .rounds)) row) r (omega (arith, g .round-top i h))
-              (both (certificate-sent s t i r) (cond (late s t (certificate-at s t i (suc r) .tick)) lack false) (both (honest s i) (ltb (suc r) (seat-at t i .round)) h (lt→ltb (suc r) (seat-at t i .round) lt))
+              (both (certificate-sent s t i r) (cond (late s t (certificate-at s t i (suc r) .tick)) lack false)
+                  (both (honest s i) (ltb (suc r) (seat-at t i .round)) h (lt→ltb (suc r) (seat-at t i .round) lt))
                 (both (late s t (certificate-at s t i (suc r) .tick)) lack (le→leb (certificate-at s t i (suc r) .tick + s .delay) (suc (t .clock)) due) q))
         has : T (has-certificate s t c m j)
         has = all-have (λ j. has-certificate s t c m j) none j hj

@@ -47,6 +47,7 @@ module _ (s : Setup) (P : Proper s) where
       let f : x / w * w ≡ r * w = ap (λ (y : ℕ). y * w) q in
       (omega (arith, d, f, one), omega (arith, d, f, m, one))
 
+  -- .. and all of them
   pub round-in : (r c : ℕ) → round-start s (suc r) ≤ c → c < round-start s (suc r) + round-width s → block-round s c ≡ suc r
   round-in r c l u =
       let d = c - 1 - r * w in
@@ -69,6 +70,7 @@ module _ (s : Setup) (P : Proper s) where
     pub number-owner : block-owner s (number-of (s .n) (s .editions) r i e) ≡ i
     number-owner = ap (λ (y : ℕ). y % s .n) before ∙ mod-mul-add (r - 1) (s .n) i li
 
+  -- the own block of a seat
   pub own-round : (i r : ℕ) → i < s .n → 1 ≤ r → block-round s (own-block s i r) ≡ r
   own-round i r l p = number-round i r 0 l p (P .editions)
 

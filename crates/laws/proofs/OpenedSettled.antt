@@ -30,7 +30,8 @@ module _ {A : Type 0} (s : Setup) (K : Kind A) (P : Proper s) (idles : Idle-foll
       sound-o : Sound s K P idles (opened-tables s K)
       sound-o = record {
         run = start;
-        sized = let z = opened-sizes s K P idles in record { blocks = z .blocks; records = z .records; drafts = z .drafts; seats = z .seats; received = z .received; votes = z .votes; certificates = z .certificates };
+        sized = let z = opened-sizes s K P idles in record { blocks = z .blocks; records = z .records; drafts = z .drafts; seats = z .seats; received = z .received;
+            votes = z .votes; certificates = z .certificates };
         phase = λ i h. subst (λ a. Phase-fits s (a .phase) (a .round)) (sym (opened-seat s K P idles i h)) tt;
         low = λ i h l. absurd (omega (arith, l, ap (block-round s) (x .heads i h)));
         sealed = λ i r h l. absurd (omega (arith, l, x .rounds i h));

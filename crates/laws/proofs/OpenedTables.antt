@@ -61,6 +61,7 @@ module _ {A : Type 0} (s : Setup) (K : Kind A) (P : Proper s) (idles : Idle-foll
   unfolding opened-tables
   block-own x h = writes-done (honest s) own1 (λ a. first-block) no-block old-blocks apart (s .n) room-b x (honest-below s x h) h
 
+  -- block 0 is its own parent
   pub root-up : getD (opened-tables s K .blocks) 0 no-block .parent ≡ 0
   root-up = ⊎-elim (λ e. ap (λ a. a .parent) e) (λ u. ap (λ a. a .parent) (u .4)) (block-case 0)
 
@@ -94,7 +95,8 @@ module _ {A : Type 0} (s : Setup) (K : Kind A) (P : Proper s) (idles : Idle-foll
   apart-h x y hx hy e = row-one (s .n) (own1 x) (own1 y) x y (honest-below s x hx) (honest-below s y hy) e .1
 
   room-h : (x : ℕ) → x < s .n → T (honest s x) → own-row x < length rooted
-  room-h x l h = omega (arith, writes-length (λ i. true) (λ i. i) hold-row nothing-received blank (s .n), length-replicate (block-rows s * s .n) nothing-received, row-room s P (own1 x) x (own1-room x h) l)
+  room-h x l h = omega (arith, writes-length (λ i. true) (λ i. i) hold-row nothing-received blank (s .n), length-replicate
+      (block-rows s * s .n) nothing-received, row-room s P (own1 x) x (own1-room x h) l)
 
   -- a row of the holdings: blank, or held with no signature; and then of the root or of an own block
   record Row (y : ℕ) : Type 0 where
@@ -104,18 +106,23 @@ module _ {A : Type 0} (s : Setup) (K : Kind A) (P : Proper s) (idles : Idle-foll
   received-row : (y : ℕ) → Row y
   unfolding opened-tables
   received-row y = ⊎-elim (λ e. first e) (λ u. record {
-      silent = ap (λ a. a .signers) (u .4) ∙ ⊎-elim (λ e. ap (λ a. a .signers) (e ∙ all-same (block-rows s * s .n) y nothing-received)) (λ e. ap (λ a. a .signers) (e .4) ∙ ap (λ a. a .signers) (all-same (block-rows s * s .n) y nothing-received)) inner;
+      silent = ap (λ a. a .signers) (u .4) ∙ ⊎-elim (λ e. ap (λ a. a .signers) (e ∙ all-same (block-rows s * s .n) y nothing-received))
+          (λ e. ap (λ a. a .signers) (e .4) ∙ ap (λ a. a .signers) (all-same (block-rows s * s .n) y nothing-received)) inner;
       why = λ t. inr (u .0, u .2, u .3)
     }) (writes-cases (honest s) own-row hold-row nothing-received rooted apart-h (s .n) room-h y)
     where
-      inner : (getD rooted y nothing-received ≡ getD blank y nothing-received) ⊎ ((x : ℕ) × (x < s .n) × T true × (y ≡ x) × (getD rooted y nothing-received ≡ hold-row (getD blank y nothing-received)))
+      inner : (getD rooted y nothing-received ≡ getD blank y nothing-received)
+        ⊎ ((x : ℕ) × (x < s .n) × T true × (y ≡ x) × (getD rooted y nothing-received ≡ hold-row (getD blank y nothing-received)))
       inner = writes-cases (λ i. true) (λ i. i) hold-row nothing-received blank (λ x z p q e. e) (s .n) room-0 y
       first : getD (opened-tables s K .received) y nothing-received ≡ getD rooted y nothing-received → Row y
       first e = ⊎-elim
-          (λ f. let z = e ∙ f ∙ all-same (block-rows s * s .n) y nothing-received in record { silent = ap (λ a. a .signers) z; why = λ t. absurd (subst (λ a. T (a .held)) z t) })
-          (λ f. record { silent = ap (λ a. a .signers) (e ∙ f .4) ∙ ap (λ a. a .signers) (all-same (block-rows s * s .n) y nothing-received); why = λ t. inl (omega (arith, f .3, f .1)) })
+          (λ f. let z = e ∙ f ∙ all-same (block-rows s * s .n) y nothing-received in record { silent = ap (λ a. a .signers) z;
+              why = λ t. absurd (subst (λ a. T (a .held)) z t) })
+          (λ f. record { silent = ap (λ a. a .signers) (e ∙ f .4) ∙ ap (λ a. a .signers) (all-same (block-rows s * s .n) y nothing-received);
+              why = λ t. inl (omega (arith, f .3, f .1)) })
           inner
 
+  -- all seats hold block 0
   pub root-row : (i : ℕ) → i < s .n → T (getD (opened-tables s K .received) i nothing-received .held)
   unfolding opened-tables
   root-row i l = ⊎-elim
@@ -123,10 +130,12 @@ module _ {A : Type 0} (s : Setup) (K : Kind A) (P : Proper s) (idles : Idle-foll
       (λ u. subst (λ a. T (a .held)) (sym (u .4)) tt)
       (writes-cases (honest s) own-row hold-row nothing-received rooted apart-h (s .n) room-h i)
 
+  -- the row of a seat
   pub opened-seat : (i : ℕ) → T (honest s i) → getD (opened-tables s K .seats) i no-seat ≡ record { round = 1; phase = Waiting; head = 0 }
   unfolding opened-tables
   opened-seat i h = getD-replicate (s .n) i (record { round = 1; phase = Waiting; head = 0 }) no-seat (honest-below s i h)
 
+  -- nothing is signed, and no certificate sent
   pub no-votes : (y : ℕ) → getD (opened-tables s K .votes) y no-vote ≡ no-vote
   unfolding opened-tables
   no-votes y = all-same (block-rows s * s .n) y no-vote
@@ -139,6 +148,7 @@ module _ {A : Type 0} (s : Setup) (K : Kind A) (P : Proper s) (idles : Idle-foll
   unfolding opened-tables
   at-zero = refl
 
+  -- the tables have the lengths required
   pub record Sizes : Type 0 where
     pub blocks : length (opened-tables s K .blocks) ≡ block-rows s
     pub records : length (opened-tables s K .records) ≡ block-rows s
@@ -156,11 +166,13 @@ module _ {A : Type 0} (s : Setup) (K : Kind A) (P : Proper s) (idles : Idle-foll
     records = writes-length (honest s) own1 (λ a. K .idle (K .first)) (K .first) (replicate (block-rows s) (K .first)) (s .n) ∙ length-replicate (block-rows s) (K .first);
     drafts = length-replicate (s .n) None;
     seats = length-replicate (s .n) (record { round = 1; phase = Waiting; head = 0 });
-    received = writes-length (honest s) own-row hold-row nothing-received rooted (s .n) ∙ writes-length (λ i. true) (λ i. i) hold-row nothing-received blank (s .n) ∙ length-replicate (block-rows s * s .n) nothing-received;
+    received = writes-length (honest s) own-row hold-row nothing-received rooted (s .n) ∙ writes-length (λ i. true) (λ i. i) hold-row nothing-received blank (s .n)
+        ∙ length-replicate (block-rows s * s .n) nothing-received;
     votes = length-replicate (block-rows s * s .n) no-vote;
     certificates = length-replicate (s .n * s .rounds) no-certificate
   }
 
+  -- The tables, seen.
   pub is-opened : Opened (terms-of s) (view s K (opened-tables s K))
   is-opened = record {
     clock = at-zero;
@@ -176,8 +188,10 @@ module _ {A : Type 0} (s : Setup) (K : Kind A) (P : Proper s) (idles : Idle-foll
     root-held = λ i h. subst (λ (y : ℕ). T (getD (opened-tables s K .received) y nothing-received .held)) (omega arith) (root-row i (honest-below s i h));
     made-only = made-only;
     held-made = λ i b h t. ⊎-elim
-      (λ l. subst (λ (y : ℕ). T (getD (opened-tables s K .blocks) y no-block .made)) (sym (row-one (s .n) b 0 i (b * s .n + i) (honest-below s i h) l (omega arith) .0)) root-made)
-      (λ u. subst (λ (y : ℕ). T (getD (opened-tables s K .blocks) y no-block .made)) (sym (row-one (s .n) b (own1 (u .0)) i (u .0) (honest-below s i h) (honest-below s (u .0) (u .1)) (u .2) .0)) (own-made (u .0) (u .1)))
+      (λ l. subst (λ (y : ℕ). T (getD (opened-tables s K .blocks) y no-block .made))
+          (sym (row-one (s .n) b 0 i (b * s .n + i) (honest-below s i h) l (omega arith) .0)) root-made)
+      (λ u. subst (λ (y : ℕ). T (getD (opened-tables s K .blocks) y no-block .made))
+          (sym (row-one (s .n) b (own1 (u .0)) i (u .0) (honest-below s i h) (honest-below s (u .0) (u .1)) (u .2) .0)) (own-made (u .0) (u .1)))
       (received-row (b * s .n + i) .why t);
     proposed = λ i h. own-made i h;
     heads = λ i h. ap (λ a. a .head) (opened-seat i h)
@@ -198,7 +212,8 @@ module _ {A : Type 0} (s : Setup) (K : Kind A) (P : Proper s) (idles : Idle-foll
           old zero = refl
           old (suc b) = ap (λ a. a .carried) (all-same (s .rounds * s .n * s .editions) b no-block)
       made-only : (b : ℕ) → T (getD (opened-tables s K .blocks) b no-block .made)
-        → (b ≡ 0) ⊎ ((block-round s b ≡ 1) × (b ≡ own-block s (block-owner s b) 1) × T (valid K (opened-tables s K) b) × (getD (opened-tables s K .blocks) b no-block .parent ≡ 0))
+        → (b ≡ 0) ⊎ ((block-round s b ≡ 1) × (b ≡ own-block s (block-owner s b) 1) × T
+            (valid K (opened-tables s K) b) × (getD (opened-tables s K .blocks) b no-block .parent ≡ 0))
       made-only b t = ⊎-elim
           (λ e. ⊎-elim inl (λ f. absurd (subst (λ a. T (a .made)) (e ∙ f) t)) (old-block b))
           (λ u. inr (
@@ -211,6 +226,8 @@ module _ {A : Type 0} (s : Setup) (K : Kind A) (P : Proper s) (idles : Idle-foll
         where
           ok : (b x : ℕ) → T (honest s x) → b ≡ own1 x → getD (opened-tables s K .blocks) b no-block .parent ≡ 0 → T (valid K (opened-tables s K) b)
           ok b x h e z =
-              let p : record-at K (opened-tables s K) (getD (opened-tables s K .blocks) b no-block .parent) ≡ K .first = ap (record-at K (opened-tables s K)) z ∙ record-root in
+              let p : record-at K (opened-tables s K) (getD (opened-tables s K .blocks) b no-block .parent) ≡ K .first = ap (record-at K (opened-tables s K)) z
+                  ∙ record-root in
               let c : record-at K (opened-tables s K) b ≡ K .idle (K .first) = ap (record-at K (opened-tables s K)) e ∙ record-own x h in
-              subst (λ x. T (K .follows x (record-at K (opened-tables s K) (getD (opened-tables s K .blocks) b no-block .parent)))) (sym c) (subst (λ x. T (K .follows (K .idle (K .first)) x)) (sym p) (yes-T (idles (K .first))))
+              subst (λ x. T (K .follows x (record-at K (opened-tables s K) (getD (opened-tables s K .blocks) b no-block .parent)))) (sym c)
+                  (subst (λ x. T (K .follows (K .idle (K .first)) x)) (sym p) (yes-T (idles (K .first))))

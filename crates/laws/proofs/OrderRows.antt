@@ -83,6 +83,7 @@ module _ {A : Type 0} (s : Setup) (K : Kind A) where
   ticked-orders t = upto-keeps (λ (u : Tables A). u .orders ≡ t .orders) (end-due s K) (next-tick t) (s .n) refl
       (λ x u l e. either u (wait-due s u x) (end-wait s K u x) u (end-wait-orders u x) refl ∙ e)
 
+  -- whatever the call
   pub orders-stay : (c : Call A) (t : Tables A) → call-with s K c t .tables .orders ≡ t .orders
   orders-stay tick-call t = tick-outcome s K t (λ o. o .tables .orders ≡ t .orders) (λ f. refl) (ticked-orders t)
   orders-stay (offer-call i d) t = offer-outcome s K t (λ o. o .tables .orders ≡ t .orders) (λ f. refl) i d refl

@@ -28,7 +28,8 @@ module _ {A : Type 0} (s : Setup) (K : Kind A) (t : Tables A) (Q : Outcome A →
   tick-outcome ok =
       let w = upto (end-due s K) (next-tick t) (s .n) in
       test Q (fits s t) (cond (overdue s t) (refused MessageOverdue t) (cond (ltb (t .clock) 8000000) (done w) (refused ClockStopped t))) (refused TableLength t)
-        (test Q (overdue s t) (refused MessageOverdue t) (cond (ltb (t .clock) 8000000) (done w) (refused ClockStopped t)) (no MessageOverdue) (test Q (ltb (t .clock) 8000000) (done w) (refused ClockStopped t) ok (no ClockStopped)))
+        (test Q (overdue s t) (refused MessageOverdue t) (cond (ltb (t .clock) 8000000) (done w) (refused ClockStopped t)) (no MessageOverdue)
+            (test Q (ltb (t .clock) 8000000) (done w) (refused ClockStopped t) ok (no ClockStopped)))
         (no TableLength)
 
   pub offer-outcome : (i : ℕ) (d : A) → Q (done (with-drafts t (set (t .drafts) i (Some d)))) → Q (offer s K i d t)
@@ -36,7 +37,8 @@ module _ {A : Type 0} (s : Setup) (K : Kind A) (t : Tables A) (Q : Outcome A →
   offer-outcome i d ok =
       let w = with-drafts t (set (t .drafts) i (Some d)) in
       test Q (ltb i (s .n)) (cond (honest s i) (cond (fits s t) (done w) (refused TableLength t)) (refused SeatIsByzantine t)) (refused NoSuchSeat t)
-        (test Q (honest s i) (cond (fits s t) (done w) (refused TableLength t)) (refused SeatIsByzantine t) (test Q (fits s t) (done w) (refused TableLength t) ok (no TableLength)) (no SeatIsByzantine))
+        (test Q (honest s i) (cond (fits s t) (done w) (refused TableLength t)) (refused SeatIsByzantine t)
+            (test Q (fits s t) (done w) (refused TableLength t) ok (no TableLength)) (no SeatIsByzantine))
         (no NoSuchSeat)
 
   pub block-outcome : (j b : ℕ) → Q (done (react s K (takes-in s t j b) j)) → Q (deliver-block s K j b t)
@@ -61,11 +63,14 @@ module _ {A : Type 0} (s : Setup) (K : Kind A) (t : Tables A) (Q : Outcome A →
       let x3 = cond (fits s t) x4 (refused TableLength t) in
       let x2 = cond (honest s j) x3 (refused SeatIsByzantine t) in
       test Q (ltb i (s .n)) (cond (ltb j (s .n)) x2 (refused NoSuchSeat t)) (refused NoSuchSeat t)
-        (test Q (ltb j (s .n)) x2 (refused NoSuchSeat t) (test Q (honest s j) x3 (refused SeatIsByzantine t) (test Q (fits s t) x4 (refused TableLength t) (test Q (block-at t b .made) x5 (refused NoSuchBlock t)
-          (test Q (vote-at s t i b .sent) x6 (refused NeverSent t) (test Q (has-vote s t i b j) (refused NothingNew t) (done w) (no NothingNew) ok) (no NeverSent)) (no NoSuchBlock)) (no TableLength)) (no SeatIsByzantine)) (no NoSuchSeat))
+        (test Q (ltb j (s .n)) x2 (refused NoSuchSeat t) (test Q (honest s j) x3 (refused SeatIsByzantine t)
+            (test Q (fits s t) x4 (refused TableLength t) (test Q (block-at t b .made) x5 (refused NoSuchBlock t)
+          (test Q (vote-at s t i b .sent) x6 (refused NeverSent t) (test Q (has-vote s t i b j) (refused NothingNew t) (done w) (no NothingNew) ok) (no NeverSent))
+              (no NoSuchBlock)) (no TableLength)) (no SeatIsByzantine)) (no NoSuchSeat))
         (no NoSuchSeat)
 
-  pub sent-outcome : (i j r : ℕ) → Q (done (react s K (receives s (takes-in s t j (certificate-at s t i (suc r) .block)) j (certificate-at s t i (suc r) .block) (certificate-at s t i (suc r) .signers)) j)) → Q (deliver-sent s K i j r t)
+  pub sent-outcome : (i j r : ℕ) → Q (done (react s K (receives s (takes-in s t j (certificate-at s t i (suc r) .block)) j (certificate-at s t i (suc r) .block)
+    (certificate-at s t i (suc r) .signers)) j)) → Q (deliver-sent s K i j r t)
   sent-outcome i j r ok =
       let c = certificate-at s t i (suc r) .block in
       let m = certificate-at s t i (suc r) .signers in
@@ -73,7 +78,8 @@ module _ {A : Type 0} (s : Setup) (K : Kind A) (t : Tables A) (Q : Outcome A →
       let x1 = cond (has-certificate s t c m j) (refused NothingNew t) (done w) in
       test Q (certificate-sent s t i r) x1 (refused NeverSent t) (test Q (has-certificate s t c m j) (refused NothingNew t) (done w) (no NothingNew) ok) (no NeverSent)
 
-  pub certificate-outcome : (i j r : ℕ) → Q (done (react s K (receives s (takes-in s t j (certificate-at s t i (suc (r - 1)) .block)) j (certificate-at s t i (suc (r - 1)) .block) (certificate-at s t i (suc (r - 1)) .signers)) j)) → Q (deliver-certificate s K i j r t)
+  pub certificate-outcome : (i j r : ℕ) → Q (done (react s K (receives s (takes-in s t j (certificate-at s t i (suc (r - 1)) .block)) j
+    (certificate-at s t i (suc (r - 1)) .block) (certificate-at s t i (suc (r - 1)) .signers)) j)) → Q (deliver-certificate s K i j r t)
   unfolding deliver-certificate
   certificate-outcome i j r ok =
       let x5 = deliver-sent s K i j (r - 1) t in
@@ -82,10 +88,12 @@ module _ {A : Type 0} (s : Setup) (K : Kind A) (t : Tables A) (Q : Outcome A →
       let x2 = cond (honest s j) x3 (refused SeatIsByzantine t) in
       test Q (ltb i (s .n)) (cond (ltb j (s .n)) x2 (refused NoSuchSeat t)) (refused NoSuchSeat t)
         (test Q (ltb j (s .n)) x2 (refused NoSuchSeat t) (test Q (honest s j) x3 (refused SeatIsByzantine t) (test Q (fits s t) x4 (refused TableLength t)
-          (test Q (cond (ltb 0 r) (leb r (s .rounds)) false) x5 (refused NeverSent t) (sent-outcome i j (r - 1) ok) (no NeverSent)) (no TableLength)) (no SeatIsByzantine)) (no NoSuchSeat))
+          (test Q (cond (ltb 0 r) (leb r (s .rounds)) false) x5 (refused NeverSent t) (sent-outcome i j (r - 1) ok) (no NeverSent)) (no TableLength))
+              (no SeatIsByzantine)) (no NoSuchSeat))
         (no NoSuchSeat)
 
-  pub plant-outcome : (i r e p : ℕ) (x : A) → Q (done (takes-in s (with-block t (number-of (s .n) (s .editions) r i e) p (signers s t p) x) i (number-of (s .n) (s .editions) r i e))) → Q (plant s K i r e p x t)
+  pub plant-outcome : (i r e p : ℕ) (x : A) → Q (done (takes-in s (with-block t (number-of (s .n) (s .editions) r i e) p (signers s t p) x) i
+    (number-of (s .n) (s .editions) r i e))) → Q (plant s K i r e p x t)
   unfolding plant
   plant-outcome i r e p x ok =
       let b = number-of (s .n) (s .editions) r i e in
@@ -98,11 +106,15 @@ module _ {A : Type 0} (s : Setup) (K : Kind A) (t : Tables A) (Q : Outcome A →
       let x3 = cond (ltb e (s .editions)) x4 (refused EditionOutOfRange t) in
       let x2 = cond (cond (ltb 0 r) (leb r (s .rounds)) false) x3 (refused RoundOutOfRange t) in
       test Q (ltb i (s .n)) (cond (honest s i) (refused SeatIsHonest t) x2) (refused NoSuchSeat t)
-        (test Q (honest s i) (refused SeatIsHonest t) x2 (no SeatIsHonest) (test Q (cond (ltb 0 r) (leb r (s .rounds)) false) x3 (refused RoundOutOfRange t) (test Q (ltb e (s .editions)) x4 (refused EditionOutOfRange t) (test Q (fits s t) x5 (refused TableLength t)
-          (test Q (block-at t p .made) x6 (refused NoSuchBlock t) (test Q (block-at t b .made) (refused NothingNew t) x7 (no NothingNew) (test Q stands (done w) (refused WrongParent t) ok (no WrongParent))) (no NoSuchBlock)) (no TableLength)) (no EditionOutOfRange)) (no RoundOutOfRange)))
+        (test Q (honest s i) (refused SeatIsHonest t) x2 (no SeatIsHonest) (test Q (cond (ltb 0 r) (leb r (s .rounds)) false) x3 (refused RoundOutOfRange t)
+            (test Q (ltb e (s .editions)) x4 (refused EditionOutOfRange t) (test Q (fits s t) x5 (refused TableLength t)
+          (test Q (block-at t p .made) x6 (refused NoSuchBlock t) (test Q (block-at t b .made) (refused NothingNew t) x7 (no NothingNew)
+              (test Q stands (done w) (refused WrongParent t) ok (no WrongParent))) (no NoSuchBlock)) (no TableLength)) (no EditionOutOfRange))
+              (no RoundOutOfRange)))
         (no NoSuchSeat)
 
-  pub sign-outcome : (i b : ℕ) → Q (done (receives s (takes-in s (with-votes t (set (t .votes) (b * s .n + i) (record { sent = true; tick = t .clock })) (t .received)) i b) i b (2 ^ i))) → Q (sign s K i b t)
+  pub sign-outcome : (i b : ℕ) → Q (done (receives s (takes-in s (with-votes t (set (t .votes) (b * s .n + i) (record { sent = true; tick = t .clock }))
+    (t .received)) i b) i b (2 ^ i))) → Q (sign s K i b t)
   unfolding sign
   sign-outcome i b ok =
       let w = receives s (takes-in s (with-votes t (set (t .votes) (b * s .n + i) (record { sent = true; tick = t .clock })) (t .received)) i b) i b (2 ^ i) in
@@ -110,6 +122,7 @@ module _ {A : Type 0} (s : Setup) (K : Kind A) (t : Tables A) (Q : Outcome A →
       let x3 = cond (cond (ltb 0 b) (block-at t b .made) false) x4 (refused NoSuchBlock t) in
       let x2 = cond (fits s t) x3 (refused TableLength t) in
       test Q (ltb i (s .n)) (cond (honest s i) (refused SeatIsHonest t) x2) (refused NoSuchSeat t)
-        (test Q (honest s i) (refused SeatIsHonest t) x2 (no SeatIsHonest) (test Q (fits s t) x3 (refused TableLength t) (test Q (cond (ltb 0 b) (block-at t b .made) false) x4 (refused NoSuchBlock t)
+        (test Q (honest s i) (refused SeatIsHonest t) x2 (no SeatIsHonest) (test Q (fits s t) x3 (refused TableLength t)
+            (test Q (cond (ltb 0 b) (block-at t b .made) false) x4 (refused NoSuchBlock t)
           (test Q (vote-at s t i b .sent) (refused NothingNew t) (done w) (no NothingNew) ok) (no NoSuchBlock)) (no TableLength)))
         (no NoSuchSeat)

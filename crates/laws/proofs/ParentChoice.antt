@@ -20,14 +20,17 @@ module _ {A : Type 0} (s : Setup) (P : Proper s) (t : Tables A) (i r : ℕ) wher
   abbrev pub Fit-parent : ℕ → Type 0
   Fit-parent p = T (holds-notarisation s t i p) × (block-round s p ≡ suc r)
 
+  -- the choice is such a block, if it is made from one
   pub parent-fits : (c : ℕ) → Fit-parent c → Fit-parent (parent-choice s t i (suc r) c)
   unfolding parent-choice
   parent-fits c q = upto-keeps Fit-parent
-      (λ x best. cond (holds-notarisation s t i (round-start s (suc r) + x)) (cond (ltb (weight-of s t best) (weight-of s t (round-start s (suc r) + x))) (round-start s (suc r) + x) best) best)
+      (λ x best. cond (holds-notarisation s t i (round-start s (suc r) + x))
+          (cond (ltb (weight-of s t best) (weight-of s t (round-start s (suc r) + x))) (round-start s (suc r) + x) best) best)
       c (round-width s) q turn
     where
       turn : (x best : ℕ) → x < round-width s → Fit-parent best
-        → Fit-parent (cond (holds-notarisation s t i (round-start s (suc r) + x)) (cond (ltb (weight-of s t best) (weight-of s t (round-start s (suc r) + x))) (round-start s (suc r) + x) best) best)
+        → Fit-parent (cond (holds-notarisation s t i (round-start s (suc r) + x))
+            (cond (ltb (weight-of s t best) (weight-of s t (round-start s (suc r) + x))) (round-start s (suc r) + x) best) best)
       turn x best l g = go (holds-notarisation s t i d) refl (ltb (weight-of s t best) (weight-of s t d))
         where
           d : ℕ

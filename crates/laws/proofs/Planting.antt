@@ -39,9 +39,11 @@ module _ {A : Type 0} (s : Setup) (K : Kind A) (P : Proper s) (idles : Idle-foll
   -- the signatures that exist
   signers-signed : (t : Tables A) (b x : ℕ) → T (bit (signers s t b) x) → T (view s K t .signed x b)
   unfolding signers
-  signers-signed t b = upto-keeps (λ m. (x : ℕ) → T (bit m x) → T (view s K t .signed x b)) (λ i m. cond (vote-at s t i b .sent) (bitOr m (2 ^ i)) m) 0 (s .n) (λ x q. absurd (bit-none x q)) turn
+  signers-signed t b = upto-keeps (λ m. (x : ℕ) → T (bit m x) → T (view s K t .signed x b)) (λ i m. cond (vote-at s t i b .sent) (bitOr m (2 ^ i)) m) 0 (s .n)
+      (λ x q. absurd (bit-none x q)) turn
     where
-      turn : (i m : ℕ) → i < s .n → ((x : ℕ) → T (bit m x) → T (view s K t .signed x b)) → (x : ℕ) → T (bit (cond (vote-at s t i b .sent) (bitOr m (2 ^ i)) m) x) → T (view s K t .signed x b)
+      turn : (i m : ℕ) → i < s .n → ((x : ℕ) → T (bit m x) → T (view s K t .signed x b)) → (x : ℕ) → T (bit (cond (vote-at s t i b .sent) (bitOr m (2 ^ i)) m) x)
+        → T (view s K t .signed x b)
       turn i m l p x q = go (vote-at s t i b .sent) refl q
         where
           go : (v : Bool) → vote-at s t i b .sent ≡ v → T (bit (cond v (bitOr m (2 ^ i)) m) x) → T (view s K t .signed x b)
@@ -55,7 +57,8 @@ module _ {A : Type 0} (s : Setup) (K : Kind A) (P : Proper s) (idles : Idle-foll
     → T (block-at t p .made) → (T (block-at t (number-of (s .n) (s .editions) (suc r) i e) .made) → ⊥) → suc (block-round s p) ≡ suc r
     → (p ≡ 0) ⊎ (s .quorum ≤ ones (signers s t p))
     → Settles s K P idles t (takes-in s (with-block t (number-of (s .n) (s .editions) (suc r) i e) p (signers s t p) x) i (number-of (s .n) (s .editions) (suc r) i e))
-  plants t z i r e p x li bad top le made fresh round-p notarised = outside s K P idles i t (takes-in s t1 i b) z bad (acts-then s K P idles g1 (take-acts s K P idles t1 (g1 .sound) i b li made-b))
+  plants t z i r e p x li bad top le made fresh round-p notarised = outside s K P idles i t (takes-in s t1 i b) z bad
+      (acts-then s K P idles g1 (take-acts s K P idles t1 (g1 .sound) i b li made-b))
     where
       f : Sound s K P idles t
       f = z .sound
@@ -77,7 +80,8 @@ module _ {A : Type 0} (s : Setup) (K : Kind A) (P : Proper s) (idles : Idle-foll
       quorum l = ⊎-elim (λ q. absurd (omega (arith, l, round-b, round-p, ap (block-round s) q)))
           (λ q. omega (arith, q, count-set (s .n) m (λ y w. ltb→lt y (s .n) (both-l (ltb y (s .n)) (vote-at s t y p .sent) (signers-signed t p y w))))) notarised
       st : Step (terms-of s) (view s K t) (view s K t1)
-      st = making s K P t b p m x len-b (omega (arith, f .sized .records, f .sized .blocks, len-b)) fresh (parents s K P idles t f) (omega (arith, round-b)) made (round-p ∙ sym round-b)
+      st = making s K P t b p m x len-b (omega (arith, f .sized .records, f .sized .blocks, len-b)) fresh (parents s K P idles t f) (omega (arith, round-b)) made
+          (round-p ∙ sym round-b)
           quorum (signers-signed t p) (λ h. absurd (bad (subst (λ (y : ℕ). T (honest s y)) own-b h)))
       made-b : T (block-at t1 b .made)
       made-b = subst (λ a. T (a .made)) (sym (getD-set-same (t .blocks) b row no-block len-b)) tt
@@ -101,10 +105,13 @@ module _ {A : Type 0} (s : Setup) (K : Kind A) (P : Proper s) (idles : Idle-foll
         only = record { clock = refl; received = λ j c l n. refl; seats = λ j n. refl; certificates = λ j q l w n. refl }
       }
 
+  -- the call
   pub plant-settles : (i r e p : ℕ) (x : A) (t : Tables A) → Settled s K P idles t → Settles s K P idles t (plant s K i r e p x t .tables)
   unfolding plant
   plant-settles i zero e p x t z =
-      either s K P idles Q (ltb i (s .n)) (cond (honest s i) (refused SeatIsHonest t) (refused RoundOutOfRange t)) (refused NoSuchSeat t) (λ l. either s K P idles Q (honest s i) (refused SeatIsHonest t) (refused RoundOutOfRange t) (λ h. same s K P idles z) (λ h. same s K P idles z)) (λ l. same s K P idles z)
+      either s K P idles Q (ltb i (s .n)) (cond (honest s i) (refused SeatIsHonest t) (refused RoundOutOfRange t)) (refused NoSuchSeat t)
+          (λ l. either s K P idles Q (honest s i) (refused SeatIsHonest t) (refused RoundOutOfRange t) (λ h. same s K P idles z) (λ h. same s K P idles z))
+          (λ l. same s K P idles z)
     where
       Q : Outcome A → Type 0
       Q o = Settles s K P idles t (o .tables)
@@ -127,7 +134,8 @@ module _ {A : Type 0} (s : Setup) (K : Kind A) (P : Proper s) (idles : Idle-foll
       (λ w. either s K P idles Q (block-at t p .made) x6 (refused NoSuchBlock t)
       (λ mp. either s K P idles Q (block-at t b .made) (refused NothingNew t) x7 (λ w. same s K P idles z)
       (λ mb. either s K P idles Q (cond (eqb (suc (block-round s p)) (suc r)) notarised false) x8 (refused WrongParent t)
-        (λ ok. plants t z i r e p x (ltb→lt i (s .n) (yes-T l)) (no-T h) (leb→le (suc r) (s .rounds) (both-r (ltb 0 (suc r)) (leb (suc r) (s .rounds)) (yes-T top))) (ltb→lt e (s .editions) (yes-T le))
+        (λ ok. plants t z i r e p x (ltb→lt i (s .n) (yes-T l)) (no-T h) (leb→le (suc r) (s .rounds) (both-r (ltb 0 (suc r)) (leb (suc r) (s .rounds)) (yes-T top)))
+            (ltb→lt e (s .editions) (yes-T le))
           (yes-T mp) (no-T mb) (eqb→eq (suc (block-round s p)) (suc r) (both-l (eqb (suc (block-round s p)) (suc r)) notarised (yes-T ok)))
           (by-quorum (eqb p 0) refl (both-r (eqb (suc (block-round s p)) (suc r)) notarised (yes-T ok))))
       (λ w. same s K P idles z))) (λ w. same s K P idles z)) (λ w. same s K P idles z)) (λ w. same s K P idles z)) (λ w. same s K P idles z))) (λ w. same s K P idles z)

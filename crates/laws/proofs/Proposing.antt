@@ -32,6 +32,7 @@ use Rattle.laws.proofs.Making.{making}
 use Rattle.laws.proofs.Sound.{Sized, Sound, lasting, made-fits, parents, root-held, timing-of}
 
 module _ {A : Type 0} (s : Setup) (K : Kind A) (P : Proper s) (idles : Idle-follows K) where
+  -- the record of a proposal follows that of its parent
   pub proposed-follows : (d : Option A) (p : A) → T (K .follows (proposed-record K d p) p)
   proposed-follows None p = yes-T (idles p)
   proposed-follows (Some d) p = go (K .follows d p) refl
@@ -106,7 +107,8 @@ module _ {A : Type 0} (s : Setup) (K : Kind A) (P : Proper s) (idles : Idle-foll
         made-p : T (v .made p)
         made-p = timing-of s K P idles t f .holding i p h (notarisation-held (terms-of s) (lawful s P) v (timing-of s K P idles t f) (few s P) i p h n) .made
         st : Step (terms-of s) v (view s K t1)
-        st = making s K P t b p m x len-b (omega (arith, f .sized .records, f .sized .blocks, len-b)) (f .ahead i (suc (suc r)) h (omega (arith, at-r)) top) (parents s K P idles t f)
+        st = making s K P t b p m x len-b (omega (arith, f .sized .records, f .sized .blocks, len-b)) (f .ahead i (suc (suc r)) h (omega (arith, at-r)) top)
+            (parents s K P idles t f)
             (omega (arith, round-b)) made-p (omega (arith, e, round-b)) (λ l. n) (λ y q. timing-of s K P idles t f .received i p y h q .0)
             (λ hb. (sym (ap (λ (y : ℕ). own-block s y (block-round s b)) own-b ∙ ap (own-block s i) round-b), proposed-follows (draft-at t i) (record-at K t p)))
         m1 : Blocks (terms-of s) (view s K t1)
@@ -119,7 +121,8 @@ module _ {A : Type 0} (s : Setup) (K : Kind A) (P : Proper s) (idles : Idle-foll
             (subst (λ a. T (a .made)) (sym (getD-set-same (t .blocks) b row no-block len-b)) tt) refl
 
     -- .. or is not, past the last round
-    pub ready : (p : ℕ) → Notarised-at (terms-of s) v i p → block-round s p ≡ suc r → Ready t i (suc (suc r)) (cond (leb (suc (suc r)) (s .rounds)) (propose s K t i (suc (suc r)) p) t)
+    pub ready : (p : ℕ) → Notarised-at (terms-of s) v i p → block-round s p ≡ suc r
+      → Ready t i (suc (suc r)) (cond (leb (suc (suc r)) (s .rounds)) (propose s K t i (suc (suc r)) p) t)
     ready p n e = go (leb (suc (suc r)) (s .rounds)) refl
       where
         go : (q : Bool) → leb (suc (suc r)) (s .rounds) ≡ q → Ready t i (suc (suc r)) (cond q (propose s K t i (suc (suc r)) p) t)

@@ -56,12 +56,15 @@ module _ {A : Type 0} (s : Setup) (K : Kind A) (P : Proper s) (idles : Idle-foll
       first None e = second (votes-act s K P idles t f i h r at-r top awake (λ c q n. lowest-none s K P idles t f i r h e c q n)) (lowest-notarised s u i (suc r)) refl
       first (Some c) e = let z = lowest-some s K P idles t f i r c h e in leave-acts s K P idles t f i h r at-r top awake c (z .0) (z .1)
 
-  pub react-acts : (t : Tables A) → Sound s K P idles t → (i : ℕ) → T (honest s i) → (T (view s K t .waiting i) → t .clock < entered-at s t i (seat-at t i .round) + 2 * s .delay)
+  -- a seat reacts, whatever its phase
+  pub react-acts : (t : Tables A) → Sound s K P idles t → (i : ℕ) → T (honest s i)
+    → (T (view s K t .waiting i) → t .clock < entered-at s t i (seat-at t i .round) + 2 * s .delay)
     → Acts s K P idles i t (react s K t i) × Calm (terms-of s) (view s K (react s K t i)) i
   unfolding react
   react-acts t f i h waits = go (seat-at t i .phase) refl (f .phase i h)
     where
-      go : (x : Phase) → seat-at t i .phase ≡ x → Phase-fits s x (seat-at t i .round) → Acts s K P idles i t (react-as s K t i x) × Calm (terms-of s) (view s K (react-as s K t i x)) i
+      go : (x : Phase) → seat-at t i .phase ≡ x → Phase-fits s x (seat-at t i .round)
+        → Acts s K P idles i t (react-as s K t i x) × Calm (terms-of s) (view s K (react-as s K t i x)) i
       go Waiting e fit = (acts-none s K P idles f, record {
         waiting = waits;
         voting = λ q. absurd (q (subst (λ y. T (is-waiting y)) (sym e) tt));

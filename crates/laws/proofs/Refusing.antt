@@ -19,6 +19,7 @@ accepted-not-refused e = subst is-ok e tt
     is-ok (Err g) = ⊥
 
 module _ {A : Type 0} (s : Setup) (K : Kind A) where
+  -- whatever the call
   pub refused-kept : (c : Call A) (t : Tables A) (f : BenchFault) → call-with s K c t .answer ≡ Err f → call-with s K c t .tables ≡ t
   refused-kept c t f = go c
     where

@@ -16,6 +16,7 @@ use Rattle.laws.proofs.SigningCalls.{sign-settles}
 use Rattle.laws.proofs.OrderRows.{orders-stay}
 
 module _ {A : Type 0} (s : Setup) (K : Kind A) (P : Proper s) (idles : Idle-follows K) where
+  -- one call
   pub call-settles : (c : Call A) (t : Tables A) → Settled s K P idles t → Settles s K P idles t (call-with s K c t .tables)
   call-settles tick-call t z = tick-settles s K P idles t z
   call-settles (offer-call i d) t z = offer-settles s K P idles i d t z

@@ -34,6 +34,7 @@ bits-below (suc n) m f = let h = bits-below n (m / 2) (λ x t. omega (arith, f (
 pub count-set : (n m : ℕ) → ((x : ℕ) → T (bit m x) → x < n) → count n (bit m) ≡ ones m
 count-set n m f = count-ones n m (bits-below n m f)
 
+-- an honest seat is one of the n
 pub honest-below : (s : Setup) (i : ℕ) → T (honest s i) → i < s .n
 honest-below s i h = ltb→lt i (s .n) (both-l (ltb i (s .n)) (not (is-marked (s .marks) i)) h)
 

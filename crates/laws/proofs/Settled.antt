@@ -23,6 +23,7 @@ module _ {A : Type 0} (s : Setup) (K : Kind A) (P : Proper s) (idles : Idle-foll
     pub settled : Settled u
     pub run : Run (terms-of s) (view s K t) (view s K u)
 
+  -- nothing happens
   pub same : {t : Tables A} → Settled t → Settles t t
   same z = record { settled = z; run = start }
 

@@ -51,6 +51,7 @@ module _ {A : Type 0} (s : Setup) (K : Kind A) (P : Proper s) (idles : Idle-foll
         only = record { clock = refl; received = λ j c l n. refl; seats = λ j n. refl; certificates = λ j q l w n. refl }
       }
 
+  -- the call
   pub sign-settles : (i b : ℕ) (t : Tables A) → Settled s K P idles t → Settles s K P idles t (sign s K i b t .tables)
   unfolding sign
   sign-settles i b t z =

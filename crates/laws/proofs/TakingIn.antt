@@ -40,7 +40,8 @@ module _ {A : Type 0} (s : Setup) (K : Kind A) (P : Proper s) where
     signed-at-same = λ i c q. refl;
     held-stays = λ i c q. ⊎-elim (λ e. subst (λ y. T (y .held)) (sym (e .1)) has) (λ e. subst (λ y. T (y .held)) (sym e) q) (cases (c * n + i));
     received-stays = λ i c x q. ⊎-elim
-      (λ e. subst (λ y. T (bit (y .signers) x)) (sym (e .1)) (subst T (sym (bit-or old m x)) (or-l (bit old x) (bit m x) (subst (λ y. T (bit (getD (t .received) y nothing-received .signers) x)) (e .0) q))))
+      (λ e. subst (λ y. T (bit (y .signers) x)) (sym (e .1)) (subst T (sym (bit-or old m x))
+          (or-l (bit old x) (bit m x) (subst (λ y. T (bit (getD (t .received) y nothing-received .signers) x)) (e .0) q))))
       (λ e. subst (λ y. T (bit (y .signers) x)) (sym e) q) (cases (c * n + i));
     votes = λ i c h q no-q. absurd (no-q q);
     gets = λ i c h q no-q. absurd (⊎-elim
@@ -66,12 +67,14 @@ module _ {A : Type 0} (s : Setup) (K : Kind A) (P : Proper s) where
       w = receives s t j b m
       old : ℕ
       old = received-at s t j b .signers
-      cases : (x : ℕ) → ((x ≡ b * n + j) × (getD (w .received) x nothing-received ≡ receive-row m (received-at s t j b))) ⊎ (getD (w .received) x nothing-received ≡ getD (t .received) x nothing-received)
+      cases : (x : ℕ) → ((x ≡ b * n + j) × (getD (w .received) x nothing-received ≡ receive-row m (received-at s t j b)))
+        ⊎ (getD (w .received) x nothing-received ≡ getD (t .received) x nothing-received)
       cases x = set-cases (t .received) (b * n + j) (receive-row m (received-at s t j b)) nothing-received len x
 
   -- seat j holds block b, whose parent it holds, with all that b carries
   pub holding : (t : Tables A) (j b : ℕ) → j < s .n → b * s .n + j < length (t .received) → T (see t .made b) → T (see t .held j (see t .parent b))
-    → ((x : ℕ) → T (see t .carried b x) → T (see t .received j (see t .parent b) x)) → Step k (see t) (see (with-received t (set (t .received) (b * s .n + j) (hold-row (received-at s t j b)))))
+    → ((x : ℕ) → T (see t .carried b x) → T (see t .received j (see t .parent b) x))
+        → Step k (see t) (see (with-received t (set (t .received) (b * s .n + j) (hold-row (received-at s t j b)))))
   holding t j b lj len made has carried = messages-step k (see t) (see w .signed) (see w .signed-at) (see w .held) (see w .received) (few s P) (record {
     signed-stays = λ i c q. q;
     signed-at-same = λ i c q. refl;
@@ -94,14 +97,17 @@ module _ {A : Type 0} (s : Setup) (K : Kind A) (P : Proper s) where
       n = s .n
       w : Tables A
       w = with-received t (set (t .received) (b * s .n + j) (hold-row (received-at s t j b)))
-      cases : (x : ℕ) → ((x ≡ b * n + j) × (getD (w .received) x nothing-received ≡ hold-row (received-at s t j b))) ⊎ (getD (w .received) x nothing-received ≡ getD (t .received) x nothing-received)
+      cases : (x : ℕ) → ((x ≡ b * n + j) × (getD (w .received) x nothing-received ≡ hold-row (received-at s t j b)))
+        ⊎ (getD (w .received) x nothing-received ≡ getD (t .received) x nothing-received)
       cases x = set-cases (t .received) (b * n + j) (hold-row (received-at s t j b)) nothing-received len x
       held-stays : (y : ℕ) → T (getD (t .received) y nothing-received .held) → T (getD (w .received) y nothing-received .held)
       held-stays y q = ⊎-elim (λ e. subst (λ z. T (z .held)) (sym (e .1)) tt) (λ e. subst (λ z. T (z .held)) (sym e) q) (cases y)
       received-stays : (y x : ℕ) → T (bit (getD (t .received) y nothing-received .signers) x) → T (bit (getD (w .received) y nothing-received .signers) x)
-      received-stays y x q = ⊎-elim (λ e. subst (λ z. T (bit (z .signers) x)) (sym (e .1)) (subst (λ z. T (bit (getD (t .received) z nothing-received .signers) x)) (e .0) q)) (λ e. subst (λ z. T (bit (z .signers) x)) (sym e) q) (cases y)
+      received-stays y x q = ⊎-elim (λ e. subst (λ z. T (bit (z .signers) x)) (sym (e .1))
+          (subst (λ z. T (bit (getD (t .received) z nothing-received .signers) x)) (e .0) q)) (λ e. subst (λ z. T (bit (z .signers) x)) (sym e) q) (cases y)
       received-was : (y x : ℕ) → T (bit (getD (w .received) y nothing-received .signers) x) → T (bit (getD (t .received) y nothing-received .signers) x)
-      received-was y x q = ⊎-elim (λ e. subst (λ z. T (bit (getD (t .received) z nothing-received .signers) x)) (sym (e .0)) (subst (λ z. T (bit (z .signers) x)) (e .1) q)) (λ e. subst (λ z. T (bit (z .signers) x)) e q) (cases y)
+      received-was y x q = ⊎-elim (λ e. subst (λ z. T (bit (getD (t .received) z nothing-received .signers) x)) (sym (e .0))
+          (subst (λ z. T (bit (z .signers) x)) (e .1) q)) (λ e. subst (λ z. T (bit (z .signers) x)) e q) (cases y)
 
   -- what taking in gives
   pub record Taken (t : Tables A) (h u : List ReceivedRow) (j b : ℕ) : Type 0 where
@@ -125,7 +131,8 @@ module _ {A : Type 0} (s : Setup) (K : Kind A) (P : Proper s) where
       size = refl;
       other = λ i c l n. refl
     }
-    takes (suc d) h b len base made e = go (takes d h p len base (parent-made b made (omega arith)) (omega (arith, parent-round b made (omega arith)))) (getD h (b * s .n + j) nothing-received .held) refl
+    takes (suc d) h b len base made e = go (takes d h p len base (parent-made b made (omega arith)) (omega (arith, parent-round b made (omega arith))))
+        (getD h (b * s .n + j) nothing-received .held) refl
       where
         p : ℕ
         p = getD (t .blocks) b no-block .parent
@@ -147,7 +154,8 @@ module _ {A : Type 0} (s : Setup) (K : Kind A) (P : Proper s) where
           size = length-set x (b * s .n + j) (hold-row (getD x (b * s .n + j) nothing-received)) ∙ size-x ∙ ih .size;
           other = λ i c l n.
             getD-set-other x (b * s .n + j) (c * s .n + i) (hold-row (getD x (b * s .n + j) nothing-received)) nothing-received (λ q. n (row-one (s .n) c b i j l lj q .1))
-            ∙ getD-set-other u (p * s .n + j) (c * s .n + i) (receive-row m (getD u (p * s .n + j) nothing-received)) nothing-received (λ q. n (row-one (s .n) c p i j l lj q .1))
+            ∙ getD-set-other u (p * s .n + j) (c * s .n + i) (receive-row m (getD u (p * s .n + j) nothing-received)) nothing-received
+                (λ q. n (row-one (s .n) c p i j l lj q .1))
             ∙ ih .other i c l n
         })
           where
@@ -164,4 +172,5 @@ module _ {A : Type 0} (s : Setup) (K : Kind A) (P : Proper s) where
             s2 : Step k (see (with-received t x)) (see (with-received t y))
             s2 = holding (with-received t x) j b lj room-x made
                 (subst (λ z. T (z .held)) (sym at-p) (ih .held))
-                (λ z c. subst (λ r. T (bit (r .signers) z)) (sym at-p) (subst T (sym (bit-or (getD u (p * s .n + j) nothing-received .signers) m z)) (or-r (bit (getD u (p * s .n + j) nothing-received .signers) z) (bit m z) c)))
+                (λ z c. subst (λ r. T (bit (r .signers) z)) (sym at-p) (subst T (sym (bit-or (getD u (p * s .n + j) nothing-received .signers) m z))
+                    (or-r (bit (getD u (p * s .n + j) nothing-received .signers) z) (bit m z) c)))

@@ -12,6 +12,7 @@ pub split : (b : Bool) → (b ≡ true) ⊎ (b ≡ false)
 split true = inl refl
 split false = inr refl
 
+-- by equations and by T
 pub yes-T : {b : Bool} → b ≡ true → T b
 yes-T e = subst T (sym e) tt
 

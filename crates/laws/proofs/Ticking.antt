@@ -53,7 +53,8 @@ module _ {A : Type 0} (s : Setup) (K : Kind A) (P : Proper s) (idles : Idle-foll
     sound-later : Sound s K P idles (next-tick t)
     sound-later = record {
       run = next (f .run) clock-step;
-      sized = record { blocks = f .sized .blocks; records = f .sized .records; drafts = f .sized .drafts; seats = f .sized .seats; received = f .sized .received; votes = f .sized .votes; certificates = f .sized .certificates };
+      sized = record { blocks = f .sized .blocks; records = f .sized .records; drafts = f .sized .drafts; seats = f .sized .seats; received = f .sized .received;
+          votes = f .sized .votes; certificates = f .sized .certificates };
       phase = f .phase;
       low = f .low;
       sealed = λ i r h l. record { signed = f .sealed i r h l .signed; quorum = f .sealed i r h l .quorum };
@@ -87,20 +88,23 @@ module _ {A : Type 0} (s : Setup) (K : Kind A) (P : Proper s) (idles : Idle-foll
             rest : T (cond (is-waiting (seat-at u x .phase)) (leb (entered-at s u x (seat-at u x .round) + 2 * s .delay) (u .clock)) false)
             rest = both-r (honest s x) (cond (is-waiting (seat-at u x .phase)) (leb (entered-at s u x (seat-at u x .round) + 2 * s .delay) (u .clock)) false) (yes-T e)
             over : entered-at s u x (seat-at u x .round) + 2 * s .delay ≤ u .clock
-            over = leb→le (entered-at s u x (seat-at u x .round) + 2 * s .delay) (u .clock) (both-r (is-waiting (seat-at u x .phase)) (leb (entered-at s u x (seat-at u x .round) + 2 * s .delay) (u .clock)) rest)
+            over = leb→le (entered-at s u x (seat-at u x .round) + 2 * s .delay) (u .clock)
+                (both-r (is-waiting (seat-at u x .phase)) (leb (entered-at s u x (seat-at u x .round) + 2 * s .delay) (u .clock)) rest)
             r : Acts s K P idles x u (end-wait s K u x) × Calm (terms-of s) (view s K (end-wait s K u x)) x
             r = end-wait-acts s K P idles u (y .sound) x h over
             each : (j : ℕ) → T (honest s j) → Dec (j ≡ x) → Calm (terms-of s) (view s K (end-wait s K u x)) j ⊎ ((suc x ≤ j) × T (view s K (end-wait s K u x) .waiting j))
             each j hj (yes q) = inl (subst (Calm (terms-of s) (view s K (end-wait s K u x))) (sym q) (r .1))
             each j hj (no q) =
                 let o = others-untouched s K P idles x u (end-wait s K u x) (y .sound) (r .0) j hj q in
-                ⊎-elim (λ c. inl (still-calm (terms-of s) (view s K u) (view s K (end-wait s K u x)) j o c)) (λ c. inr (omega (arith, c .0, q), subst T (sym (o .waiting)) (c .1))) (y .each j hj)
+                ⊎-elim (λ c. inl (still-calm (terms-of s) (view s K u) (view s K (end-wait s K u x)) j o c))
+                    (λ c. inr (omega (arith, c .0, q), subst T (sym (o .waiting)) (c .1))) (y .each j hj)
         go false e = record { sound = y .sound; run = y .run; each = λ j hj. ⊎-elim inl (λ c. each j hj c (ℕ-discrete j x)) (y .each j hj) }
           where
             each : (j : ℕ) → T (honest s j) → (x ≤ j) × T (view s K u .waiting j) → Dec (j ≡ x) → Calm (terms-of s) (view s K u) j ⊎ ((suc x ≤ j) × T (view s K u .waiting j))
             each j hj c (no q) = inr (omega (arith, c .0, q), c .1)
             each j hj c (yes q) = inl (subst (Calm (terms-of s) (view s K u)) (sym q) (record {
-              waiting = λ w. nleb→lt (entered-at s u x (seat-at u x .round) + 2 * s .delay) (u .clock) (not-T (leb (entered-at s u x (seat-at u x .round) + 2 * s .delay) (u .clock)) (λ o. no-T e
+              waiting = λ w. nleb→lt (entered-at s u x (seat-at u x .round) + 2 * s .delay) (u .clock)
+                  (not-T (leb (entered-at s u x (seat-at u x .round) + 2 * s .delay) (u .clock)) (λ o. no-T e
                 (both (honest s x) (cond (is-waiting (seat-at u x .phase)) (leb (entered-at s u x (seat-at u x .round) + 2 * s .delay) (u .clock)) false) hx
                   (both (is-waiting (seat-at u x .phase)) (leb (entered-at s u x (seat-at u x .round) + 2 * s .delay) (u .clock)) wx o))));
               voting = λ n. absurd (n wx);
@@ -117,12 +121,16 @@ module _ {A : Type 0} (s : Setup) (K : Kind A) (P : Proper s) (idles : Idle-foll
         let y = upto-step Turn (end-due s K) (next-tick t) (s .n) first-turn turn in
         record { settled = record { sound = y .sound; calm = λ j h. ⊎-elim (λ c. c) (λ c. absurd (omega (arith, c .0, honest-below s j h))) (y .each j h) }; run = y .run }
 
+  -- the call
   pub tick-settles : (t : Tables A) → Settled s K P idles t → Settles s K P idles t (tick s K t .tables)
   unfolding tick
   tick-settles t z =
-      either s K P idles Q (fits s t) (cond (overdue s t) (refused MessageOverdue t) (cond (ltb (t .clock) 8000000) (done (upto (end-due s K) (next-tick t) (s .n))) (refused ClockStopped t))) (refused TableLength t)
-      (λ e. either s K P idles Q (overdue s t) (refused MessageOverdue t) (cond (ltb (t .clock) 8000000) (done (upto (end-due s K) (next-tick t) (s .n))) (refused ClockStopped t)) (λ e. same s K P idles z)
-        (λ quiet. either s K P idles Q (ltb (t .clock) 8000000) (done (upto (end-due s K) (next-tick t) (s .n))) (refused ClockStopped t) (λ e. ticked t z quiet) (λ e. same s K P idles z)))
+      either s K P idles Q (fits s t) (cond (overdue s t) (refused MessageOverdue t)
+          (cond (ltb (t .clock) 8000000) (done (upto (end-due s K) (next-tick t) (s .n))) (refused ClockStopped t))) (refused TableLength t)
+      (λ e. either s K P idles Q (overdue s t) (refused MessageOverdue t) (cond (ltb (t .clock) 8000000) (done (upto (end-due s K) (next-tick t) (s .n)))
+          (refused ClockStopped t)) (λ e. same s K P idles z)
+        (λ quiet. either s K P idles Q (ltb (t .clock) 8000000) (done (upto (end-due s K) (next-tick t) (s .n))) (refused ClockStopped t) (λ e. ticked t z quiet)
+            (λ e. same s K P idles z)))
       (λ e. same s K P idles z)
     where
       Q : Outcome A → Type 0

@@ -31,6 +31,7 @@ module _ {A : Type 0} (s : Setup) (K : Kind A) (P : Proper s) (idles : Idle-foll
   abbrev pub Answers : Tables A → ℕ → ℕ → Type 0
   Answers u i c = (b : ℕ) × T (view s K u .signed i b) × (block-round s b ≡ block-round s c) × ((b ≡ c) ⊎ (rank s b < rank s c))
 
+  -- What the votes of seat i in round r + 1 do: its row stays, and every valid block that it holds is answered.
   pub record Votes-act (i r : ℕ) (t u : Tables A) : Type 0 where
     pub acts : Acts s K P idles i t u
     pub seats : u .seats ≡ t .seats
@@ -42,7 +43,8 @@ module _ {A : Type 0} (s : Setup) (K : Kind A) (P : Proper s) (idles : Idle-foll
     st = round-start s (suc r)
 
     votes-some : (c0 : ℕ) → First (holds-valid s K t i) st (round-width s) c0 → Votes-act i r t (vote-at-rank s K t i (suc r) (lowest-rank s K t i (suc r) c0))
-    votes-some c0 x0 = subst (Votes-act i r t) (sym (loop-is s K P t i r low li top (f .sized .votes) (f .sized .received))) (record { acts = acts; seats = ap (λ (z : Tables A). z .seats) shape; done = done })
+    votes-some c0 x0 = subst (Votes-act i r t) (sym (loop-is s K P t i r low li top (f .sized .votes) (f .sized .received)))
+        (record { acts = acts; seats = ap (λ (z : Tables A). z .seats) shape; done = done })
       where
         low : ℕ
         low = lowest-rank s K t i (suc r) c0
@@ -59,7 +61,8 @@ module _ {A : Type 0} (s : Setup) (K : Kind A) (P : Proper s) (idles : Idle-foll
         acts : Acts s K P idles i t w
         acts = record {
           sound = subst (Sound s K P idles) (sym shape) (sound-votes s K P idles t f (w .votes) (w .received)
-            (votes-size s K P t i r low li top (f .sized .votes) (f .sized .received)) (received-size s K P t i r low li top (f .sized .votes) (f .sized .received)) (subst (λ y. Step (terms-of s) (view s K t) (view s K y)) shape sp));
+            (votes-size s K P t i r low li top (f .sized .votes) (f .sized .received)) (received-size s K P t i r low li top (f .sized .votes) (f .sized .received))
+                (subst (λ y. Step (terms-of s) (view s K t) (view s K y)) shape sp));
           run = next start sp;
           only = record {
             clock = ap (λ (z : Tables A). z .clock) shape;
@@ -84,6 +87,7 @@ module _ {A : Type 0} (s : Setup) (K : Kind A) (P : Proper s) (idles : Idle-foll
         go None e = record {
           acts = acts-none s K P idles f;
           seats = refl;
-          done = λ c q hc vc. let o = in-round s P r c q in absurd (first-none (holds-valid s K t i) st (round-width s) c e (o .0) (o .1) (both (received-at s t i c .held) (valid K t c) hc vc))
+          done = λ c q hc vc. let o = in-round s P r c q in absurd (first-none (holds-valid s K t i) st (round-width s) c e (o .0) (o .1)
+              (both (received-at s t i c .held) (valid K t c) hc vc))
         }
         go (Some c) e = votes-some c (first-some (holds-valid s K t i) st (round-width s) c e)

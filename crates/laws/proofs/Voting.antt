@@ -59,7 +59,8 @@ module _ {A : Type 0} (s : Setup) (K : Kind A) (P : Proper s) (t : Tables A) (i 
 
   -- the tables after the votes: each row that is to be written is written once
   unfoldable pub voted : Tables A
-  voted = with-votes t (writes chosen rows (vote-row (t .clock)) no-vote (t .votes) (round-width s)) (writes chosen rows (receive-row (2 ^ i)) nothing-received (t .received) (round-width s))
+  voted = with-votes t (writes chosen rows (vote-row (t .clock)) no-vote (t .votes) (round-width s))
+      (writes chosen rows (receive-row (2 ^ i)) nothing-received (t .received) (round-width s))
 
   apart : (x y : ℕ) → T (chosen x) → T (chosen y) → rows x ≡ rows y → x ≡ y
   apart x y p q e = omega (arith, row-one (s .n) (start + x) (start + y) i i li li e .0)
@@ -82,13 +83,17 @@ module _ {A : Type 0} (s : Setup) (K : Kind A) (P : Proper s) (t : Tables A) (i 
 
   sent-at : (x : ℕ) → x < round-width s → T (chosen x) → T (getD (voted .votes) (rows x) no-vote .sent)
   unfolding voted
-  sent-at x l q = subst (λ y. T (y .sent)) (sym (writes-done chosen rows (vote-row (t .clock)) no-vote (t .votes) apart (round-width s) (λ x l q. omega (arith, len-v, room x l q)) x l q)) (vote-done (t .clock) (getD (t .votes) (rows x) no-vote))
+  sent-at x l q = subst (λ y. T (y .sent)) (sym (writes-done chosen rows (vote-row (t .clock)) no-vote (t .votes) apart (round-width s)
+      (λ x l q. omega (arith, len-v, room x l q)) x l q)) (vote-done (t .clock) (getD (t .votes) (rows x) no-vote))
 
   own-at : (x : ℕ) → x < round-width s → T (chosen x) → T (bit (getD (voted .received) (rows x) nothing-received .signers) i)
   unfolding voted
-  own-at x l q = subst (λ y. T (bit (y .signers) i)) (sym (writes-done chosen rows (receive-row (2 ^ i)) nothing-received (t .received) apart (round-width s) (λ x l q. omega (arith, len-h, room x l q)) x l q))
-      (subst T (sym (bit-or (getD (t .received) (rows x) nothing-received .signers) (2 ^ i) i)) (or-r (bit (getD (t .received) (rows x) nothing-received .signers) i) (bit (2 ^ i) i) (bit-own i)))
+  own-at x l q = subst (λ y. T (bit (y .signers) i)) (sym (writes-done chosen rows (receive-row (2 ^ i)) nothing-received (t .received) apart (round-width s)
+      (λ x l q. omega (arith, len-h, room x l q)) x l q))
+      (subst T (sym (bit-or (getD (t .received) (rows x) nothing-received .signers) (2 ^ i) i))
+          (or-r (bit (getD (t .received) (rows x) nothing-received .signers) i) (bit (2 ^ i) i) (bit-own i)))
 
+  -- the tables keep their lengths
   pub votes-size : length (voted .votes) ≡ length (t .votes)
   unfolding voted
   votes-size = writes-length chosen rows (vote-row (t .clock)) no-vote (t .votes) (round-width s)
@@ -101,6 +106,7 @@ module _ {A : Type 0} (s : Setup) (K : Kind A) (P : Proper s) (t : Tables A) (i 
   pub received-other : (j c : ℕ) → j < s .n → (j ≡ i → ⊥) → getD (voted .received) (c * s .n + j) nothing-received ≡ getD (t .received) (c * s .n + j) nothing-received
   received-other j c l n = ⊎-elim (λ e. e) (λ u. absurd (n (row-one (s .n) c (start + u .0) j i l li (u .3) .1))) (received-case (c * s .n + j))
 
+  -- nothing more is held
   pub held-same : (y : ℕ) → getD (voted .received) y nothing-received .held ≡ getD (t .received) y nothing-received .held
   held-same y = ⊎-elim (λ e. ap (λ a. a .held) e) (λ u. ap (λ a. a .held) (u .4)) (received-case y)
 
@@ -136,7 +142,8 @@ module _ {A : Type 0} (s : Setup) (K : Kind A) (P : Proper s) (t : Tables A) (i 
 
     received-stays : (y x : ℕ) → T (bit (getD (t .received) y nothing-received .signers) x) → T (bit (getD (voted .received) y nothing-received .signers) x)
     received-stays y x q = ⊎-elim (λ e. subst (λ a. T (bit (a .signers) x)) (sym e) q)
-        (λ u. subst (λ a. T (bit (a .signers) x)) (sym (u .4)) (subst T (sym (bit-or (getD (t .received) y nothing-received .signers) (2 ^ i) x)) (or-l (bit (getD (t .received) y nothing-received .signers) x) (bit (2 ^ i) x) q)))
+        (λ u. subst (λ a. T (bit (a .signers) x)) (sym (u .4)) (subst T (sym (bit-or (getD (t .received) y nothing-received .signers) (2 ^ i) x))
+            (or-l (bit (getD (t .received) y nothing-received .signers) x) (bit (2 ^ i) x) q)))
         (received-case y)
 
     record Chosen (j c : ℕ) : Type 0 where
@@ -225,10 +232,12 @@ module _ {A : Type 0} (s : Setup) (K : Kind A) (P : Proper s) (t : Tables A) (i 
       w = after-turns m
       test : voting-choice s K w i low (start + m) ≡ chosen m
       test = choice-same s K t w i low (start + m)
-          (writes-keep chosen rows (receive-row (2 ^ i)) nothing-received (t .received) (λ a. a .held) (λ a. refl) m (λ x l′ q. omega (arith, len-h, room x (omega arith) q)) (rows m)) refl
+          (writes-keep chosen rows (receive-row (2 ^ i)) nothing-received (t .received) (λ a. a .held) (λ a. refl) m
+              (λ x l′ q. omega (arith, len-h, room x (omega arith) q)) (rows m)) refl
       go : (b : Bool) → voting-choice s K w i low (start + m) ≡ b
         → cond (voting-choice s K w i low (start + m)) (vote-for s i w (start + m)) w
-          ≡ with-votes t (cond b (set (w .votes) (rows m) (vote-row (t .clock) (getD (w .votes) (rows m) no-vote))) (w .votes)) (cond b (set (w .received) (rows m) (receive-row (2 ^ i) (getD (w .received) (rows m) nothing-received))) (w .received))
+          ≡ with-votes t (cond b (set (w .votes) (rows m) (vote-row (t .clock) (getD (w .votes) (rows m) no-vote))) (w .votes))
+              (cond b (set (w .received) (rows m) (receive-row (2 ^ i) (getD (w .received) (rows m) nothing-received))) (w .received))
       go true e = ap (λ (b : Bool). cond b (vote-for s i w (start + m)) w) e
       go false e = ap (λ (b : Bool). cond b (vote-for s i w (start + m)) w) e
 

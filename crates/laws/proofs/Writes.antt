@@ -16,6 +16,7 @@ use Rattle.laws.proofs.Rows.{set-cases}
 
 -- rows that are written by a loop: each one once
 module _ {A : Type 0} (p : ℕ → Bool) (r : ℕ → ℕ) (f : A → A) (d : A) (xs : List A) where
+  -- the list keeps its length
   pub writes-length : (m : ℕ) → length (writes p r f d xs m) ≡ length xs
   unfolding writes
   writes-length zero = refl
@@ -28,7 +29,8 @@ module _ {A : Type 0} (p : ℕ → Bool) (r : ℕ → ℕ) (f : A → A) (d : A)
       go ih false = ih
 
   -- what a change keeps of a row, all of them keep
-  pub writes-keep : {B : Type 0} (g : A → B) → ((a : A) → g (f a) ≡ g a) → (m : ℕ) → ((x : ℕ) → x < m → T (p x) → r x < length xs) → (y : ℕ) → g (getD (writes p r f d xs m) y d) ≡ g (getD xs y d)
+  pub writes-keep : {B : Type 0} (g : A → B) → ((a : A) → g (f a) ≡ g a) → (m : ℕ) → ((x : ℕ) → x < m → T (p x) → r x < length xs) → (y : ℕ)
+    → g (getD (writes p r f d xs m) y d) ≡ g (getD xs y d)
   unfolding writes
   writes-keep g same zero room y = refl
   writes-keep {B} g same (suc k) room y = go (writes-keep g same k (λ x l. room x (omega arith)) y) (p k) refl
@@ -77,7 +79,8 @@ module _ {A : Type 0} (p : ℕ → Bool) (r : ℕ → ℕ) (f : A → A) (d : A)
         ys = writes p r f d xs k
         old : T (p k) → getD ys (r k) d ≡ getD xs (r k) d
         old q = ⊎-elim (λ e. e) (λ u. absurd (omega (arith, u .1, apart k (u .0) q (u .2) (u .3)))) (writes-cases k (λ z u. room z (omega arith)) (r k))
-        go : (x < k → getD ys (r x) d ≡ f (getD xs (r x) d)) → (b : Bool) → p k ≡ b → Dec (x ≡ k) → getD (cond b (set ys (r k) (f (getD ys (r k) d))) ys) (r x) d ≡ f (getD xs (r x) d)
+        go : (x < k → getD ys (r x) d ≡ f (getD xs (r x) d)) → (b : Bool) → p k ≡ b → Dec (x ≡ k)
+          → getD (cond b (set ys (r k) (f (getD ys (r k) d))) ys) (r x) d ≡ f (getD xs (r x) d)
         go ih false q (yes e) = absurd (no-T q (subst (λ z. T (p z)) e t))
         go ih false q (no n) = ih (omega (arith, n))
         go ih true q (yes e) = subst (λ z. getD (set ys (r k) (f (getD ys (r k) d))) (r z) d ≡ f (getD xs (r z) d)) (sym e)
