@@ -1,10 +1,10 @@
 //! draw: who leads each round of a roster, and how often that seat is honest.
-mod arguments;
+mod request;
 
-use arguments::Beacons;
-use arguments::Request;
-use arguments::asks_for_help;
-use arguments::read_request;
+use request::Beacons;
+use request::Request;
+use request::asks_for_help;
+use request::read_request;
 use drawing::fault::DrawFault;
 use drawing::fault::DrawFaultFromRoster;
 use drawing::report::refusal_line;

@@ -103,8 +103,8 @@ pub fn report<B: Beacon>(
     Ok(out)
 }
 
-// A numbered sentence in a line.
-fn numbered_line(heap: Global, number: u8, sentence: &str) -> Result<String, AllocError>
+/// A numbered sentence in a line.
+pub fn numbered_line(heap: Global, number: u8, sentence: &str) -> Result<String, AllocError>
     ensures { λ r. ⌜ made r (λ s. string-bytes s ≡ numbered-line number (now (sentence .entry))) ⌝ }
 {
     format!(heap, "refused {number}: {sentence}\n")

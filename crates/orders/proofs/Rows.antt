@@ -8,7 +8,8 @@ use native.Mathlib.Omega.{arith}
 use lib.Dec.{ltb}
 use lib.ListN.{length, getD, take, set, length-map}
 use lib.Seq.{ext-getD}
-use Rattle.std.proofs.shelf.Lists.{getD-map, take-more-set, map-push, take-all}
+use Rattle.std.specs.shelf.Lists.{joined}
+use Rattle.std.proofs.shelf.Lists.{getD-map, take-more-set, map-push, take-all, joined-more}
 use Rattle.std.proofs.shelf.Tests.{lt-ltb, le-ltb, cases-lt}
 use mathlib.Core.Logic.{_⊎_, ⊎-elim}
 use mathlib.Core.Bool.{true}
@@ -81,3 +82,9 @@ sixteen-at n f s h k =
 -- the rank of a seat stands in its order row
 pub order-row-at : (m : Ranking) (r s : ℕ) → m .seats ≤ 16 → covers m r ≡ true → s < m .seats → getD (order-row m r) s 0 ≡ m .rank r s
 order-row-at m r s h c k = sixteen-at (m .seats) (rank-answer m r) s h k ∙ rw (c, lt-ltb s (m .seats) k)
+
+-- a text of one line for each number: one line more
+pub lines-more : (line : ℕ → List ℕ) (bs : List ℕ) (i r : ℕ) → 1 + i ≡ r → (bs ++ joined line (numbers 1 i)) ++ line r ≡ bs ++ joined line (numbers 1 (i + 1))
+lines-more line bs i r e =
+    ap (λ (x : ℕ). (bs ++ joined line (numbers 1 i)) ++ line x) (sym e)
+    ∙ joined-more line bs (numbers 1 i) (1 + i) ∙ ap (λ (l : List ℕ). bs ++ joined line l) (sym (numbers-more 1 i))

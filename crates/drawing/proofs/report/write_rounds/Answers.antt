@@ -6,7 +6,7 @@ use Rattle.std.specs.Of.String.{string-bytes}
 use Rattle.orders.specs.Ranking.{Ranking}
 use Rattle.orders.specs.Rows.{numbers}
 use Rattle.drawing.specs.Report.{round-line, round-lines}
-use Rattle.drawing.proofs.Growing.{lines-more}
+use Rattle.orders.proofs.Rows.{lines-more}
 use Rattle.drawing.proofs.report.write_rounds.Needs as need
 
 pub loop-before-holds : need.loop-before-holds

@@ -1,9 +1,10 @@
 //! What the arguments ask for.
 ghost use mathlib.Core.Path.{_≡_};
 ghost use mathlib.Core.Bool.{true, cond};
-ghost use Prim.Native.Nat.{min};
 ghost use lib.Dec.{ltb};
 ghost use lib.ListN.{length};
+use arguments::eight_bits;
+use arguments::number;
 use std::alloc::Global;
 use std::error::AnyError;
 
@@ -23,13 +24,6 @@ pub struct Request {
     pub rounds: u16,
 }
 
-// A count in a byte; the largest byte where it does not fit.
-fn byte(count: u64) -> u8
-    ensures { λ r. ⌜ r ≡ min count 255 ⌝ }
-{
-    count.min(255) as u8
-}
-
 // A number of rounds; 0, which no beacon covers, where there are too many.
 fn round_count(count: u64) -> u16
     ensures { λ r. ⌜ r ≡ cond (ltb 65535 count) 0 count ⌝ }
@@ -37,10 +31,10 @@ fn round_count(count: u64) -> u16
     if count > 65535 { 0 } else { count as u16 }
 }
 
-fn number(heap: Global, word: &str) -> Result<u64, AnyError> {
-    match word.parse::<u64>() {
-        Ok(x) => Ok(x),
-        Err(_) => Err(format!(heap, "not a number: {word}")?.into()),
+fn needed(heap: Global, word: &str) -> Result<u64, AnyError> {
+    match number(word) {
+        Some(x) => Ok(x),
+        None => Err(format!(heap, "not a number: {word}")?.into()),
     }
 }
 
@@ -51,7 +45,7 @@ fn seats(heap: Global, word: &str) -> Result<Vec<u8>, AnyError> {
         return Ok(list);
     }
     for part in word.split(',') {
-        list.push(byte(number(heap, part)?))?;
+        list.push(eight_bits(needed(heap, part)?))?;
     }
     Ok(list)
 }
@@ -64,10 +58,10 @@ fn parts(
     rounds: &str,
 ) -> Result<Request, AnyError> {
     Ok(Request {
-        seats: byte(number(heap, n)?),
+        seats: eight_bits(needed(heap, n)?),
         byzantine: seats(heap, byzantine)?,
         beacon,
-        rounds: round_count(number(heap, rounds)?),
+        rounds: round_count(needed(heap, rounds)?),
     })
 }
 
@@ -94,7 +88,7 @@ pub fn read_request(heap: Global, words: &[String]) -> Result<Request, AnyError>
             )
         }
         [n, byzantine, shuffle, seed, rounds] if shuffle.as_str() == "shuffle" => {
-            let seed = number(heap, seed.as_str())?;
+            let seed = needed(heap, seed.as_str())?;
             parts(
                 heap,
                 n.as_str(),

@@ -1,0 +1,4 @@
+pub mod Deadlines
+pub mod Promises
+pub mod Faults
+pub mod Text
