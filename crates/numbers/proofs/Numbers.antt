@@ -61,7 +61,7 @@ module _ (n R E : ℕ) (p : BlockId) (w : Within n R E p) where
       let some = w .some in
       same-id p _ _ _
       (round-past-zero n E (number-of-id n E p) (omega arith) ∙ ap (λ (y : ℕ). 1 + y / n) before
-        ∙ ap (λ (y : ℕ). 1 + y) (div-mul-add (p .round - 1) n (p .owner) (w .seats)) ∙ omega arith)
+      ∙ ap (λ (y : ℕ). 1 + y) (div-mul-add (p .round - 1) n (p .owner) (w .seats)) ∙ omega arith)
       (ap (λ (y : ℕ). y % n) before ∙ mod-mul-add (p .round - 1) n (p .owner) (w .seats))
       (ap (λ (y : ℕ). y % E) off ∙ mod-mul-add x E (p .edition) (w .editions))
 

@@ -34,7 +34,11 @@ impl Size {
         if editions == 0 || editions > MOST_EDITIONS {
             return None;
         }
-        Some(Size { n, rounds, editions })
+        Some(Size {
+            n,
+            rounds,
+            editions,
+        })
     }
 
     /// How many blocks there are, block 0 included.

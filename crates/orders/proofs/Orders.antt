@@ -1,9 +1,11 @@
 -- Orders: the same ranks are the same order, and each rank has its seat.
 use mathlib.Core.Path.{_≡_, sym, ap, _∙_}
 use mathlib.Core.Logic.{_⊎_, ⊎-elim, _≢_}
-use Prim.Native.Nat.{ℕ, zero, suc, _<_}
+use mathlib.Core.List.{List}
+use Prim.Native.Nat.{ℕ, zero, suc, _<_, _≤_}
+use lib.ListN.{getD}
 use native.Mathlib.Omega.{arith}
-use Rattle.std.proofs.shelf.Tests.{cases-eq, eq-eqb, ne-eqb}
+use Rattle.std.proofs.shelf.Tests.{cases-lt, cases-eq, eq-eqb, ne-eqb}
 use Rattle.orders.specs.Ranking.{Order, seat-of-rank}
 
 -- equal ranks are an order too
@@ -29,3 +31,13 @@ seat-of-rank-found (suc k) rank m s h e =
 
 pub order-seat : (n : ℕ) (rank : ℕ → ℕ) → Order n rank → (m : ℕ) → m < n → (seat-of-rank n rank m < n) × (rank (seat-of-rank n rank m) ≡ m)
 order-seat n rank o m h = let w = o .every m h in seat-of-rank-found n rank m (w .0) (w .1) (w .2)
+
+-- a search in a row of the ranks finds the seat of each rank
+pub found-seat : (n : ℕ) (rank : ℕ → ℕ) (k r : ℕ) (row : List ℕ) → Order n rank → k < n → ((s : ℕ) → s < n → getD row s 0 ≡ rank s)
+    → r ≤ n → ((j : ℕ) → j < r → getD row j 0 ≡ k → ⊥) → (r < n → getD row r 0 ≡ k) → r ≡ seat-of-rank n rank k
+found-seat n rank k r row o h is within before found =
+    let seat = order-seat n rank o k h in
+    ⊎-elim
+    (λ (lt : r < n). o .one r (seat-of-rank n rank k) lt (seat .0) (sym (is r lt) ∙ found lt ∙ sym (seat .1)))
+    (λ (ge : n ≤ r). absurd (before (seat-of-rank n rank k) (omega (arith, seat .0)) (is (seat-of-rank n rank k) (seat .0) ∙ seat .1)))
+    (cases-lt r n)

@@ -11,7 +11,9 @@ use lib.Seq.{ext-getD}
 use Rattle.std.proofs.shelf.Lists.{getD-map, take-more-set, map-push, take-all}
 use Rattle.std.proofs.shelf.Tests.{lt-ltb, le-ltb, cases-lt}
 use mathlib.Core.Logic.{_⊎_, ⊎-elim}
-use Rattle.orders.specs.Rows.{numbers, rank-row}
+use mathlib.Core.Bool.{true}
+use Rattle.orders.specs.Ranking.{Ranking, covers, rank-answer}
+use Rattle.orders.specs.Rows.{numbers, row-of-sixteen, order-row}
 
 -- the numbers from k on
 pub length-numbers : (k n : ℕ) → length (numbers k n) ≡ n
@@ -41,7 +43,7 @@ is-map f k n d xs long at =
     let lt2 : i < length (numbers k n) = omega (arith, length-numbers k n) in
     at i lt ∙ ap f (sym (getD-numbers k n i lt)) ∙ sym (getD-map f (numbers k n) i 0 d lt2))
 
-pub is-row : (n : ℕ) (rank : ℕ → ℕ) (row : List ℕ) → length row ≡ 16 → ((s : ℕ) → s < n → getD row s 0 ≡ rank s) → ((s : ℕ) → n ≤ s → getD row s 0 ≡ 0) → row ≡ rank-row n rank
+pub is-row : (n : ℕ) (rank : ℕ → ℕ) (row : List ℕ) → length row ≡ 16 → ((s : ℕ) → s < n → getD row s 0 ≡ rank s) → ((s : ℕ) → n ≤ s → getD row s 0 ≡ 0) → row ≡ row-of-sixteen n rank
 is-row n rank row long seats rest =
     is-map (λ s. cond (ltb s n) (rank s) 0) 0 16 0 row long
     (λ i h.
@@ -68,3 +70,14 @@ fill-step f k i j xs y h e q before =
 
 pub fill-end : {X : Type 0} (f : ℕ → X) (k i : ℕ) (xs : List X) → length xs ≡ i → take i xs ≡ map f (numbers k i) → xs ≡ map f (numbers k i)
 fill-end f k i xs e all = sym (take-all i xs (omega arith)) ∙ all
+
+-- what stands in a row of sixteen
+pub sixteen-at : (n : ℕ) (f : ℕ → ℕ) (s : ℕ) → n ≤ 16 → s < n → getD (row-of-sixteen n f) s 0 ≡ f s
+sixteen-at n f s h k =
+    let long : s < length (numbers 0 16) = omega (arith, length-numbers 0 16) in
+    let z : getD (numbers 0 16) s 0 ≡ s = omega (arith, getD-numbers 0 16 s (omega arith)) in
+    getD-map (λ i. cond (ltb i n) (f i) 0) (numbers 0 16) s 0 0 long ∙ ap (λ i. cond (ltb i n) (f i) 0) z ∙ rw (lt-ltb s n k)
+
+-- the rank of a seat stands in its order row
+pub order-row-at : (m : Ranking) (r s : ℕ) → m .seats ≤ 16 → covers m r ≡ true → s < m .seats → getD (order-row m r) s 0 ≡ m .rank r s
+order-row-at m r s h c k = sixteen-at (m .seats) (rank-answer m r) s h k ∙ rw (c, lt-ltb s (m .seats) k)

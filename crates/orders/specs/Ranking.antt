@@ -3,8 +3,6 @@ use mathlib.Core.Path.{_≡_}
 use mathlib.Core.Bool.{Bool, cond, _&&_, _||_}
 use Prim.Native.Nat.{ℕ, zero, suc, _<_, _≤_}
 use lib.Dec.{eqb, ltb, leb}
-use Rattle.std.specs.declared.option.Option.{Option}
-use Rattle.std.specs.declared.option.Option.the-variants.{Some, None}
 
 -- an order of n seats: each rank from 0 to n - 1 belongs to exactly one of them
 pub record Order (n : ℕ) (rank : ℕ → ℕ) : Type 0 where
@@ -36,10 +34,6 @@ rank-answer m r s = cond (covers m r && ltb s (m .seats)) (m .rank r s) 16
 unfoldable pub seat-of-rank : ℕ → (ℕ → ℕ) → ℕ → ℕ
 seat-of-rank zero rank k = 0
 seat-of-rank (suc n) rank k = cond (eqb (rank n) k) n (seat-of-rank n rank k)
-
--- the seat of rank k in round r, if the round is covered and there is such a rank
-abbrev pub seat-answer : Ranking → ℕ → ℕ → Option ℕ
-seat-answer m r k = cond (covers m r && ltb k (m .seats)) (Some (seat-of-rank (m .seats) (m .rank r) k)) None
 
 -- a seat count outside 1 to 16 is taken as 1
 abbrev pub seat-count : ℕ → ℕ

@@ -2,13 +2,13 @@
 ghost use mathlib.Core.Path.{_≡_};
 ghost use Prim.Native.Nat.{ℕ, _<_, _≤_};
 ghost use lib.ListN.{getD};
-ghost use Rattle.std.specs.Options.{Cases as BySome};
-ghost use Rattle.orders.specs.Ranking.{Order, Ranking, Lawful, rank-answer, seat-answer};
-ghost use Rattle.orders.specs.Rows.{order-row};
+ghost use Rattle.orders.specs.Ranking.{Order, Ranking, Lawful, rank-answer};
+ghost use Rattle.orders.specs.Rows.{order-row, seats-answer};
 
-pub mod shuffle;
-pub mod splitmix;
+pub mod search;
 pub mod wheel;
+
+use crate::search::first_place;
 
 /// A beacon gives, for one seat count and each round from 1 to its last, an order of the seats.
 /// `ranking` is its meaning; asking changes nothing, and the answer is always the meaning's.
@@ -41,4 +41,20 @@ pub fn ranks_of<B: Beacon>(beacon: &B, round: u16) -> [u8; 16]
         ranks[s as usize] = beacon.rank_of(round, s);
     }
     ranks
+}
+
+/// A round's seats in the order of their ranks, the leader first, 0 past the last seat; None outside the rounds.
+pub fn seats_by_rank<B: Beacon>(beacon: &B, round: u16) -> Option<[u8; 16]>
+    ensures { λ r. ⌜ r ≡ seats-answer (ranking (now (beacon .entry))) round ⌝ }
+{
+    if round == 0 || round > beacon.last_round() {
+        return None;
+    }
+    let n = beacon.seat_count();
+    let ranks = ranks_of(beacon, round);
+    let mut seats = [0u8; 16];
+    for k in 0..n {
+        seats[k as usize] = first_place(&ranks, n, k);
+    }
+    Some(seats)
 }

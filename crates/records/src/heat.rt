@@ -14,20 +14,30 @@ pub impl Record for Heat as HeatRecord {
     ghost kind = { heat-kind };
 
     fn first() -> Heat {
-        Heat { volume: 0, calorific: 0, total: 0 }
+        Heat {
+            volume: 0,
+            calorific: 0,
+            total: 0,
+        }
     }
 
     fn follows(&self, parent: &Heat) -> bool {
         if self.volume > 1_000_000 || self.calorific > 60_000 {
             return false;
         }
-        match parent.total.checked_add(self.volume as u64 * self.calorific as u64) {
+        match parent
+            .total
+            .checked_add(self.volume as u64 * self.calorific as u64) {
             Some(total) => self.total == total,
             None => false,
         }
     }
 
     fn idle(&self) -> Heat {
-        Heat { volume: 0, calorific: 0, total: self.total }
+        Heat {
+            volume: 0,
+            calorific: 0,
+            total: self.total,
+        }
     }
 }

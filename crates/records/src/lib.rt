@@ -23,27 +23,3 @@ pub trait Record: Copy {
     fn idle(&self) -> Self
         ensures { λ r. ⌜ r ≡ kind .idle (now (self .entry)) ⌝ };
 }
-
-#[cfg(test)]
-mod tests {
-    use crate::Record;
-    use crate::heat::Heat;
-    use crate::heat::HeatRecord;
-    use crate::turn::Turn;
-    use crate::turn::TurnRecord;
-    use std::test::*;
-
-    #[test]
-    fn heat_totals_never_wrap() -> Result<(), Fail> {
-        let full = Heat { volume: 0, calorific: 0, total: u64::MAX };
-        check(!Heat { volume: 1, calorific: 1, total: 0 }.follows(&full))?;
-        check(full.idle().follows(&full))
-    }
-
-    #[test]
-    fn turns_never_wrap() -> Result<(), Fail> {
-        let last = Turn { holder: 2, turn: u32::MAX };
-        check(!Turn { holder: 3, turn: 0 }.follows(&last))?;
-        check(last.follows(&last))
-    }
-}

@@ -30,7 +30,10 @@ impl Roster {
         if n == 0 || n > MOST_SEATS {
             return Err(RosterFault::SeatCount);
         }
-        Ok(Roster { n, marks: no_marks() })
+        Ok(Roster {
+            n,
+            marks: no_marks(),
+        })
     }
 
     /// Marks a seat Byzantine. A refusal leaves the roster as it was.

@@ -1,0 +1,3 @@
+mod Marking
+mod Growing
+mod Counting

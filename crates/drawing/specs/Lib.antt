@@ -1,0 +1,4 @@
+pub mod Faults
+pub mod Seating
+pub mod Leaders
+pub mod Report
