@@ -1,20 +1,20 @@
 -- An accepted opening gives a proper setup, whose ranks are those that the beacon means.
-use mathlib.Core.Path.{_≡_, refl, sym, _∙_, ap, subst}
+use mathlib.Core.Path.{_≡_, refl, _∙_, ap, subst}
 use mathlib.Core.Bool.{Bool, true, false, cond, _&&_}
 use mathlib.Core.List.{List, []}
 use Prim.Native.Nat.{ℕ, _+_, _-_, _≤_, _<_}
 use native.Mathlib.Nat.{le-trans}
 use native.Mathlib.Omega.{arith}
 use lib.Count.{ones}
-use lib.Dec.{T, eqb, ltb, leb, leb→le, ltb→lt, lt→ltb, eqb→eq}
+use lib.Dec.{T, eqb, ltb, leb, leb→le, le→leb, ltb→lt, eqb→eq}
 use lib.ListN.{length, getD}
 use Rattle.std.specs.declared.result.Result.{Result}
 use Rattle.std.specs.declared.result.Result.the-variants.{Ok, Err}
 use Rattle.std.proofs.shelf.Lists.{getD-map}
-use Rattle.orders.specs.Ranking.{Order, Ranking, Lawful, covers, rank-answer}
+use Rattle.orders.specs.Ranking.{Order, Ranking, Lawful, covers}
 use Rattle.orders.specs.Rows.{numbers, order-row, order-rows}
 use Rattle.orders.proofs.Orders.{order-same}
-use Rattle.orders.proofs.Rows.{length-numbers, getD-numbers}
+use Rattle.orders.proofs.Rows.{length-numbers, getD-numbers, order-row-at}
 use Rattle.roster.specs.declared.roster.Roster.{Roster}
 use Rattle.rules.specs.declared.fault.BenchFault.{BenchFault}
 use Rattle.rules.specs.declared.fault.BenchFault.the-variants.{DelayOutOfRange, RoundOutOfRange, EditionOutOfRange, TableLength}
@@ -22,7 +22,7 @@ use Rattle.rules.specs.Setup.{Bench, Setup, setup-with}
 use Rattle.rules.specs.Ranks.{rank-at}
 use Rattle.rules.specs.Tables.{Tables, setup-at, fits}
 use Rattle.rules.specs.Opening.{bench-of, within, serves, open-answer}
-use Rattle.laws.proofs.Tests.{both-l, both-r, T-yes}
+use Rattle.laws.proofs.Tests.{both-l, both-r}
 use Rattle.laws.proofs.BenchView.{Proper}
 
 -- a test that was passed on the way to an acceptance
@@ -79,24 +79,15 @@ rank-is b m law a r i p top li =
     let e : 1 + (r - 1) ≡ r = omega arith in
     let row : getD (order-rows m (b .rounds)) (r - 1) [] ≡ order-row m r =
           getD-map (order-row m) (numbers 1 (b .rounds)) (r - 1) 0 [] ls ∙ ap (order-row m) (getD-numbers 1 (b .rounds) (r - 1) x ∙ e) in
-    let in-row : i < m .seats = omega (arith, a .seats) in
-    let l16 : i < 16 = omega (arith, law .sixteen) in
-    let lr : i < length (numbers 0 16) = omega (arith, length-numbers 0 16) in
-    let z : 0 + i ≡ i = omega arith in
-    ap (λ (y : List ℕ). getD y i 0) row
-    ∙ getD-map (λ j. cond (ltb j (m .seats)) (rank-answer m r j) 0) (numbers 0 16) i 0 0 lr
-    ∙ ap (λ (j : ℕ). cond (ltb j (m .seats)) (rank-answer m r j) 0) (getD-numbers 0 16 i l16 ∙ z)
-    ∙ ap (λ (c : Bool). cond c (rank-answer m r i) 0) (T-yes (ltb i (m .seats)) (lt→ltb i (m .seats) in-row))
-    ∙ answer in-row (le-trans top (a .covered))
+    ap (λ (y : List ℕ). getD y i 0) row ∙ order-row-at m r i (law .sixteen) covered (omega (arith, a .seats))
   where
-    answer : i < m .seats → r ≤ m .rounds → rank-answer m r i ≡ m .rank r i
-    answer li lr = go (leb 1 r) (leb r (m .rounds)) (ltb i (m .seats)) (lib.Dec.le→leb 1 r p) (lib.Dec.le→leb r (m .rounds) lr) (lt→ltb i (m .seats) li)
+    covered : covers m r ≡ true
+    covered = go (leb 1 r) (leb r (m .rounds)) (le→leb 1 r p) (le→leb r (m .rounds) (le-trans top (a .covered)))
       where
-        go : (x y z : Bool) → T x → T y → T z → cond ((x && y) && z) (m .rank r i) 16 ≡ m .rank r i
-        go true true true p q w = refl
-        go true true false p q w = absurd w
-        go true false z p q w = absurd q
-        go false y z p q w = absurd p
+        go : (x y : Bool) → T x → T y → (x && y) ≡ true
+        go true true p q = refl
+        go true false p q = absurd q
+        go false y p q = absurd p
 
 -- with a roster and a lawful beacon the setup is proper
 pub proper : (ro : Roster) (m : Ranking) (delay rounds editions q : ℕ) → Lawful m → ones (ro .marks) < q → q + ones (ro .marks) ≤ ro .n

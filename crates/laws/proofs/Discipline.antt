@@ -1,5 +1,7 @@
 -- What the calls of a bench may do: after a step nothing is lost, and whatever is new has its ground.
--- A step is a part of a call; all votes of one reaction are one step. Each ground is asked of honest seats alone.
+-- What a Byzantine seat does needs no ground, save that a new block of its own has one like any other block.
+-- A step is a part of a call, and one step may do much: all votes of one reaction are a single step, since the seat holds no
+-- notarisation of its round before the first of them, and may hold one after it.
 use mathlib.Core.Path.{_≡_}
 use mathlib.Core.Logic.{_⊎_}
 use Prim.Native.Nat.{ℕ, suc, _+_, _*_, _≤_, _<_}

@@ -6,9 +6,8 @@ use native.Mathlib.Nat.{le-refl}
 use native.Mathlib.Omega.{arith}
 use native.Mathlib.Decide.{ℕ-discrete}
 use lib.Dec.{T}
-use Rattle.std.specs.declared.option.Option.{Option}
 use Rattle.std.specs.declared.option.Option.the-variants.{Some, None}
-use Rattle.rules.specs.Loops.{any, first-from, is-some, upto}
+use Rattle.rules.specs.Loops.{any, first-from, upto}
 use Rattle.laws.proofs.Tests.{no-T, none-ne-some, some-one, yes-T}
 
 -- what is kept by each turn is kept by all
@@ -61,22 +60,3 @@ any-none p (suc m) e x l t = go (λ (q : any p m ≡ false) (v : x < m). any-non
     go ih true q e d = no-T e tt
     go ih false q e (yes o) = no-T q (subst (λ y. T (p y)) (sym o) t)
     go ih false q e (no o) = ih e (omega (arith, o))
-
-any-some : (p : ℕ → Bool) (m : ℕ) → any p m ≡ true → (x : ℕ) × (x < m) × T (p x)
-unfolding any
-any-some p zero e = absurd (no-T (sym e) tt)
-any-some p (suc m) e = go (any-some p m) (p m) refl e
-  where
-    go : (any p m ≡ true → (x : ℕ) × (x < m) × T (p x)) → (b : Bool) → p m ≡ b → cond b true (any p m) ≡ true → (x : ℕ) × (x < suc m) × T (p x)
-    go ih true q e = (m, le-refl (suc m), yes-T q)
-    go ih false q e = let y = ih e in (y .0, omega (arith, y .1), y .2)
-
--- a search that stops at the first answers the same
-pub any-is-first : (p : ℕ → Bool) (m : ℕ) → any p m ≡ is-some (first-from p 0 m)
-any-is-first p m = go (any p m) refl (first-from p 0 m) refl
-  where
-    go : (b : Bool) → any p m ≡ b → (x : Option ℕ) → first-from p 0 m ≡ x → any p m ≡ is-some x
-    go true e None f = let y = any-some p m e in absurd (first-none p 0 m (y .0) f (omega arith) (omega (arith, y .1)) (y .2))
-    go true e (Some x) f = e
-    go false e None f = e
-    go false e (Some x) f = let y = first-some p 0 m x f in absurd (any-none p m e x (omega (arith, y .to)) (y .passes))

@@ -46,8 +46,8 @@ module _ {A : Type 0} (s : Setup) (K : Kind A) (P : Proper s) (idles : Idle-foll
     no-vote-late : any (λ b. any (vote-overdue s t b) (s .n)) (block-rows s) ≡ false
     no-vote-late = neither (any (λ b. any (vote-overdue s t b) (s .n)) (block-rows s)) (any (λ i. any (certificate-overdue s t i) (s .rounds)) (s .n)) no-rest .0
 
-    no-cert′ : any (λ i. any (certificate-overdue s t i) (s .rounds)) (s .n) ≡ false
-    no-cert′ = neither (any (λ b. any (vote-overdue s t b) (s .n)) (block-rows s)) (any (λ i. any (certificate-overdue s t i) (s .rounds)) (s .n)) no-rest .1
+    no-certificate-late : any (λ i. any (certificate-overdue s t i) (s .rounds)) (s .n) ≡ false
+    no-certificate-late = neither (any (λ b. any (vote-overdue s t b) (s .n)) (block-rows s)) (any (λ i. any (certificate-overdue s t i) (s .rounds)) (s .n)) no-rest .1
 
     -- a test that some honest seat lacks something fails: every honest seat has it
     all-have : (has : ℕ → Bool) → (T (any (λ j. cond (honest s j) (not (has j)) false) (s .n)) → ⊥) → (j : ℕ) → T (honest s j) → T (has j)
@@ -114,7 +114,7 @@ module _ {A : Type 0} (s : Setup) (K : Kind A) (P : Proper s) (idles : Idle-foll
         lack = any (λ j. cond (honest s j) (not (has-certificate s t c m j)) false) (s .n)
         none : T lack → ⊥
         none q =
-            let row = any-none (λ i. any (certificate-overdue s t i) (s .rounds)) (s .n) no-cert′ i (honest-below s i h) in
+            let row = any-none (λ i. any (certificate-overdue s t i) (s .rounds)) (s .n) no-certificate-late i (honest-below s i h) in
             any-none (certificate-overdue s t i) (s .rounds) (T-no (any (certificate-overdue s t i) (s .rounds)) row) r (omega (arith, g .round-top i h))
               (both (certificate-sent s t i r) (cond (late s t (certificate-at s t i (suc r) .tick)) lack false)
                   (both (honest s i) (ltb (suc r) (seat-at t i .round)) h (lt→ltb (suc r) (seat-at t i .round) lt))

@@ -63,7 +63,14 @@ module _ (k : Terms) (L : Lawful-terms k) (v w : View) (timing : Timing k v) (bl
           go (no n) = ⊎-elim (λ e. absurd (omega (arith, i .past)))
               (λ t. inr (t, omega (arith, i .past, t .one), here (omega arith) (decLe (v .round j) r), over)) (tick-or k v w s)
 
-  -- the answer was there, or tick d ends now: then the vote has reached seat j, which is calm
+  -- seat j answers block c by tick d: it had done so before, or tick d ends now, at which seat j holds c and is calm
+  answers : (j c d : ℕ) → T (w .honest j) → k .round-of c ≤ k .rounds → T (v .valid c) → (Voting-at k v j (k .round-of c) d → Answer k v j c d)
+    → (d ≡ v .clock → T (v .held j c)) → Voting-at k w j (k .round-of c) d → Answer k w j c d
+  answers j c d hj top ok before held x = answer-stays j c d (⊎-elim before
+      (λ y. subst (Answer k v j c) (sym (y .1)) (answer-now (y .0) j c (s .honest-was j hj) (y .2) top (omega (arith, y .3, y .1)) (held (y .1)) ok))
+      (voting-before j (k .round-of c) d hj x))
+
+  -- an honest vote: a new one is not yet due
   answered : (i j b d : ℕ) → T (w .honest i) → T (w .honest j) → T (w .signed i b) → k .round-of b ≤ k .rounds → w .signed-at i b + k .delay ≤ d
     → Voting-at k w j (k .round-of b) d → Answer k w j b d
   answered i j b d hi hj t top due x = ⊎-elim old new (holds (v .signed i b))
@@ -75,13 +82,11 @@ module _ (k : Terms) (L : Lawful-terms k) (v w : View) (timing : Timing k v) (bl
       new : (T (v .signed i b) → ⊥) → Answer k w j b d
       new n = let y = s .votes i b hi t n in absurd (omega (arith, y .tick, y .still, x .past))
       old : T (v .signed i b) → Answer k w j b d
-      old t = answer-stays j b d (⊎-elim
-          (λ y. progress .answered i j b d ui uj t top (omega (arith, s .signed-at-same i b t)) y)
-          (λ y. subst (Answer k v j b) (sym (y .1)) (answer-now (y .0) j b uj (y .2) top (omega (arith, y .3, y .1))
-              (timing .votes-due i b ui t (omega (arith, s .signed-at-same i b t, y .1)) j uj .0) (timing .voted i b ui t .valid)))
-          (voting-before j (k .round-of b) d hj x))
+      old t = answers j b d hj top (timing .voted i b ui t .valid)
+          (progress .answered i j b d ui uj t top (omega (arith, s .signed-at-same i b t)))
+          (λ e. timing .votes-due i b ui t (omega (arith, s .signed-at-same i b t, e)) j uj .0) x
 
-  -- likewise
+  -- the own block of an honest seat: a new one is not yet due
   answered-block : (i j r d : ℕ) → T (w .honest i) → T (w .honest j) → 1 ≤ r → r ≤ k .rounds → r ≤ w .round i → w .entered-at i r + k .delay ≤ d
     → Voting-at k w j r d → Answer k w j (k .own-block i r) d
   answered-block i j r d hi hj p top in-i due x = ⊎-elim old new (moved k v w s i r hi in-i)
@@ -90,19 +95,21 @@ module _ (k : Terms) (L : Lawful-terms k) (v w : View) (timing : Timing k v) (bl
       ui = s .honest-was i hi
       uj : T (v .honest j)
       uj = s .honest-was j hj
-      xr : k .round-of (k .own-block i r) ≡ r
-      xr = L .own-round i r (blocks .below i ui) p
-      new : Enters k v w i r → Answer k w j (k .own-block i r) d
+      c : ℕ
+      c = k .own-block i r
+      c-round : k .round-of c ≡ r
+      c-round = L .own-round i r (blocks .below i ui) p
+      new : Enters k v w i r → Answer k w j c d
       new y = absurd (omega (arith, ap (w .entered-at i) (y .1), y .0 .now, y .0 .still, x .past))
-      old : r ≤ v .round i → Answer k w j (k .own-block i r) d
-      old q = answer-stays j (k .own-block i r) d (⊎-elim
-          (λ y. progress .answered-block i j r d ui uj p top q (omega (arith, s .entered-at-same i r hi q)) y)
-          (λ y. subst (Answer k v j (k .own-block i r)) (sym (y .1)) (answer-now (y .0) j (k .own-block i r) uj (xr ∙ y .2) (omega (arith, xr))
-              (omega (arith, y .3, y .1, ap (v .entered-at j) xr))
-              (blocks .blocks-due i r ui p q top (omega (arith, s .entered-at-same i r hi q, y .1)) j uj)
-              (blocks .honest-own (k .own-block i r) (blocks .proposed i r ui p q top) (omega (arith, xr))
-                (subst (λ z. T (v .honest z)) (sym (L .own-owner i r (blocks .below i ui) p)) ui) .1)))
-          (voting-before j r d hj x))
+      old : r ≤ v .round i → Answer k w j c d
+      old q = answers j c d hj (omega (arith, c-round)) valid
+          (λ y. progress .answered-block i j r d ui uj p top q (omega (arith, s .entered-at-same i r hi q)) (subst (λ z. Voting-at k v j z d) c-round y))
+          (λ e. blocks .blocks-due i r ui p q top (omega (arith, s .entered-at-same i r hi q, e)) j uj)
+          (subst (λ z. Voting-at k w j z d) (sym c-round) x)
+        where
+          valid : T (v .valid c)
+          valid = blocks .honest-own c (blocks .proposed i r ui p q top) (omega (arith, c-round))
+              (subst (λ z. T (v .honest z)) (sym (L .own-owner i r (blocks .below i ui) p)) ui) .1
 
   -- the clock does not tick for a seat that has stayed so long, since it is not calm
   stay : (j : ℕ) → T (w .honest j) → w .round j ≤ k .rounds → w .clock ≤ w .entered-at j (w .round j) + (k .byzantine + 6) * k .delay

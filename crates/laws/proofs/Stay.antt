@@ -3,6 +3,7 @@
 -- Some honest seat has a rank of at most f, so by then ours has voted for a block of a rank of at most f. Each honest vote draws
 -- all honest seats, within Δ, to its block or to a lower rank. So by e + (f + 4) Δ all honest seats have signed one block,
 -- and by e + (f + 5) Δ our seat has received these signatures: it holds a notarisation of its round.
+-- All this while nobody has left the round: else our seat would have followed within Δ, by e + (f + 6) Δ.
 use mathlib.Core.Path.{_≡_, sym, _∙_, ap, subst}
 use mathlib.Core.Logic.{_⊎_, inl, inr, ⊎-elim}
 use mathlib.Core.Bool.{Bool, true, false, not}

@@ -17,11 +17,11 @@ use Rattle.rules.specs.Tables.{Tables, no-vote, nothing-received, received-at, 
 use Rattle.rules.specs.Holding.{receive-row}
 use Rattle.rules.specs.VotingChoice.{holds-valid, voting-choice}
 use Rattle.rules.specs.Seat.{vote-at-rank, vote-for, vote-row}
-use Rattle.laws.proofs.Sets.{bit-or, bit-other, bit-own}
+use Rattle.laws.proofs.Sets.{bit-or, bit-other}
 use Rattle.laws.proofs.View.{Notarised-at, Terms, View}
 use Rattle.laws.proofs.Discipline.{Step, Votes}
 use Rattle.laws.proofs.Moves.{messages-step}
-use Rattle.laws.proofs.Tests.{T-yes, both, both-l, both-r, or-case, or-l, or-r, yes-T}
+use Rattle.laws.proofs.Tests.{T-yes, both, both-l, both-r, or-case, or-l, yes-T}
 use Rattle.laws.proofs.Rows.{row-one}
 use Rattle.laws.proofs.Writes.{writes-cases, writes-done, writes-keep, writes-length}
 use Rattle.laws.proofs.BenchView.{Proper, terms-of, view}
@@ -85,13 +85,6 @@ module _ {A : Type 0} (s : Setup) (K : Kind A) (P : Proper s) (t : Tables A) (i 
   unfolding voted
   sent-at x l q = subst (λ y. T (y .sent)) (sym (writes-done chosen rows (vote-row (t .clock)) no-vote (t .votes) apart (round-width s)
       (λ x l q. omega (arith, len-v, room x l q)) x l q)) (vote-done (t .clock) (getD (t .votes) (rows x) no-vote))
-
-  own-at : (x : ℕ) → x < round-width s → T (chosen x) → T (bit (getD (voted .received) (rows x) nothing-received .signers) i)
-  unfolding voted
-  own-at x l q = subst (λ y. T (bit (y .signers) i)) (sym (writes-done chosen rows (receive-row (2 ^ i)) nothing-received (t .received) apart (round-width s)
-      (λ x l q. omega (arith, len-h, room x l q)) x l q))
-      (subst T (sym (bit-or (getD (t .received) (rows x) nothing-received .signers) (2 ^ i) i))
-          (or-r (bit (getD (t .received) (rows x) nothing-received .signers) i) (bit (2 ^ i) i) (bit-own i)))
 
   -- the tables keep their lengths
   pub votes-size : length (voted .votes) ≡ length (t .votes)
