@@ -51,11 +51,19 @@ fn counted(roster: &Roster, delay: u16, round: u16) -> Result<Deadlines, BenchFa
     })
 }
 
+// What the deadlines of a round promise, whatever the beacon, the record type and the calls.
+fn promised<R: Record>(roster: &Roster, delay: u16, round: u16)
+    ensures over { λ _. ⌜ Round-over-after (R·Record .kind) (now (roster .entry)) delay round (over-after (ones (now (roster .entry) .marks)) delay round) ⌝ }
+    ensures leader_final { λ _. ⌜ Leader-final-by (R·Record .kind) (now (roster .entry)) delay round (final-at (ones (now (roster .entry) .marks)) delay round) ⌝ }
+{
+}
+
 /// The deadlines of a round, for every bench with this roster and delay, whatever its beacon, its record type and its calls.
 pub fn deadlines_of<R: Record>(roster: &Roster, delay: u16, round: u16) -> Result<Deadlines, BenchFault>
     ensures value { λ r. ⌜ Cases r (λ d. (deadline-refusal delay round ≡ None) × (d .«over_after» ≡ over-after (ones (now (roster .entry) .marks)) delay round) × (d .«final_by» ≡ final-at (ones (now (roster .entry) .marks)) delay round)) (λ e. deadline-refusal delay round ≡ Some e) ⌝ }
     ensures over { λ _. ⌜ Round-over-after (R·Record .kind) (now (roster .entry)) delay round (over-after (ones (now (roster .entry) .marks)) delay round) ⌝ }
     ensures leader_final { λ _. ⌜ Leader-final-by (R·Record .kind) (now (roster .entry)) delay round (final-at (ones (now (roster .entry) .marks)) delay round) ⌝ }
 {
+    promised::<R>(roster, delay, round);
     counted(roster, delay, round)
 }
