@@ -1,4 +1,7 @@
 //! deadlines: by which tick each round of a bench must be over, and an honest leader's posting final.
+ghost use mathlib.Core.Path.{_≡_};
+ghost use Rattle.std.specs.Of.Vec.{vec-len};
+ghost use Rattle.std.specs.Vec.{made};
 use arguments::eight_bits;
 use arguments::number;
 use arguments::sixteen_bits;
@@ -32,7 +35,9 @@ example: deadlines 4 1 2 6
 ";
 
 // The first seats, this many.
-fn first_seats(heap: Global, count: u8) -> Result<Vec<u8>, AnyError> {
+fn first_seats(heap: Global, count: u8) -> Result<Vec<u8>, AnyError>
+    ensures { λ r. ⌜ made r (λ v. vec-len v ≡ count) ⌝ }
+{
     let mut seats = Vec::new(heap);
     for seat in 0..count {
         seats.push(seat)?;

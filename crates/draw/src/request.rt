@@ -1,8 +1,10 @@
 //! What the arguments ask for.
 ghost use mathlib.Core.Path.{_≡_};
 ghost use mathlib.Core.Bool.{true, cond};
+ghost use Prim.Native.Nat.{_<_};
 ghost use lib.Dec.{ltb};
 ghost use lib.ListN.{length};
+ghost use Rattle.std.specs.Vec.{made};
 use arguments::eight_bits;
 use arguments::number;
 use std::alloc::Global;
@@ -75,8 +77,10 @@ pub fn asks_for_help(words: &[String]) -> bool
     }
 }
 
-/// What the arguments ask for; an error says which of them is not understood.
-pub fn read_request(heap: Global, words: &[String]) -> Result<Request, AnyError> {
+/// What the arguments ask for: four words or five. An error says which of them is not understood.
+pub fn read_request(heap: Global, words: &[String]) -> Result<Request, AnyError>
+    ensures { λ r. ⌜ made r (λ _. (3 < length (now (words .entry))) × (length (now (words .entry)) < 6)) ⌝ }
+{
     match words {
         [n, byzantine, wheel, rounds] if wheel.as_str() == "wheel" => {
             parts(
