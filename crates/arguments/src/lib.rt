@@ -4,14 +4,21 @@ ghost use Prim.Native.Nat.{ℕ, _^_, _<_, min};
 ghost use Rattle.std.specs.Written.{decimal};
 ghost use Rattle.std.specs.declared.option.Option.the-variants.{Some};
 
-/// The number that a word writes in decimal; None where it writes none, or one that 64 bits do not hold.
-pub fn number(word: &str) -> Option<u64>
+// What the library's parser reads.
+fn parsed(word: &str) -> Option<u64>
     ensures { λ r. ⌜ ((n : ℕ) → n < 2 ^ 64 → now (word .entry) ≡ decimal n → r ≡ Some n) ⌝ }
 {
     match word.parse::<u64>() {
         Ok(x) => Some(x),
         Err(_) => None,
     }
+}
+
+/// The number that a word writes in decimal; None where it writes none, or one that 64 bits do not hold.
+pub fn number(word: &str) -> Option<u64>
+    ensures { λ r. ⌜ ((n : ℕ) → n < 2 ^ 64 → now (word .entry) ≡ decimal n → r ≡ Some n) ⌝ }
+{
+    parsed(word)
 }
 
 /// A count in 8 bits; the largest that they hold where it does not fit.
