@@ -1,4 +1,6 @@
 //! Numbers from a program's arguments.
+#![tactic(auto)]
+
 ghost use Rattle.std.specs.Prelude.{◌≡◌, ℕ, ◌^◌, ◌<◌, min, Some, decimal};
 
 // What the library's parser reads.

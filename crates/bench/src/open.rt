@@ -25,7 +25,7 @@ fn begin<R: Record, B: Beacon>(
     beacon: &B,
     t: &mut Tables<R>,
 ) -> Result<Bench, Unopened>
-    ensures is { record { answer = open_outcome result; tables = rows_of t.new } ≡ opening (planned roster plan) (ranking beacon.now) R.Record.kind (rows_of t.old) }
+    ensures is { record { answer = open_outcome result; tables = rows_of t.new } ≡ opening (planned roster plan) (B.ranking beacon.now) R.Record.kind (rows_of t.old) }
     ensures holds { MatchResult result (λ b. (bench_of_terms b.terms ≡ planned roster plan) × (b.terms.clock ≡ 0)) (λ u. u.roster ≡ roster) }
     ensures same { SamePlaces t.new t.old }
 {
@@ -44,10 +44,10 @@ impl Bench {
         beacon: &B,
         t: &mut Tables<R>,
     ) -> Result<Bench, Unopened>
-        ensures is { record { answer = open_outcome result; tables = rows_of t.new } ≡ opening (planned roster plan) (ranking beacon.now) R.Record.kind (rows_of t.old) }
+        ensures is { record { answer = open_outcome result; tables = rows_of t.new } ≡ opening (planned roster plan) (B.ranking beacon.now) R.Record.kind (rows_of t.old) }
         ensures holds { MatchResult result (λ b. (bench_of_terms b.terms ≡ planned roster plan) × (b.terms.clock ≡ 0)) (λ u. u.roster ≡ roster) }
         ensures same { SamePlaces t.new t.old }
-        ensures laws { IfOk result (λ b. RunBegins R.Record.kind (bench_of_terms b.terms) (ranking beacon.now) (view b.terms t.new)) }
+        ensures laws { IfOk result (λ b. RunBegins R.Record.kind (bench_of_terms b.terms) (B.ranking beacon.now) (view b.terms t.new)) }
     {
         begin(roster, plan, beacon, t)
     }

@@ -1,4 +1,6 @@
 //! deadlines: by which tick each round of a bench must be over, and an honest leader's posting final.
+#![tactic(auto)]
+
 ghost use Rattle.std.specs.Prelude.{◌≡◌, IfOk, vec_len};
 
 use anyhow::anyhow;

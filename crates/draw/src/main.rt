@@ -1,4 +1,6 @@
 //! draw: who leads each round of a roster, and how often that seat is honest.
+#![tactic(auto)]
+
 mod request;
 
 use anyhow::anyhow;

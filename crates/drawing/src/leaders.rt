@@ -7,7 +7,7 @@ use roster::roster::Roster;
 
 /// The seat that leads a round; None where the beacon does not cover it.
 pub fn leader<B: Beacon>(beacon: &B, round: u16) -> Option<u8>
-    ensures { result ≡ leader_answer (ranking beacon.now) round }
+    ensures { result ≡ leader_answer (B.ranking beacon.now) round }
 {
     match seats_by_rank(beacon, round) {
         Some(seats) => Some(seats[0]),
@@ -17,7 +17,7 @@ pub fn leader<B: Beacon>(beacon: &B, round: u16) -> Option<u8>
 
 /// Whether an honest seat of the roster leads a round; false where the beacon does not cover it.
 pub fn honest_leads<B: Beacon>(roster: &Roster, beacon: &B, round: u16) -> bool
-    ensures { result ≡ honest_leads roster.now.n roster.now.marks (ranking beacon.now) round }
+    ensures { result ≡ honest_leads roster.now.n roster.now.marks (B.ranking beacon.now) round }
 {
     match leader(beacon, round) {
         Some(seat) => roster.is_honest(seat),
@@ -27,7 +27,7 @@ pub fn honest_leads<B: Beacon>(roster: &Roster, beacon: &B, round: u16) -> bool
 
 /// How many of the rounds from 1 to `rounds` an honest seat leads.
 pub fn honest_rounds<B: Beacon>(roster: &Roster, beacon: &B, rounds: u16) -> u16
-    ensures { result ≡ honest_led roster.now.n roster.now.marks (ranking beacon.now) rounds }
+    ensures { result ≡ honest_led roster.now.n roster.now.marks (B.ranking beacon.now) rounds }
 {
     let mut led = 0;
     for before in 0..rounds {

@@ -35,8 +35,8 @@ fn write_round<B: Beacon>(
     beacon: &B,
     round: u16,
 ) -> Result<(), DrawFault>
-    requires { covers (ranking beacon.now) round ≡ true }
-    ensures { MatchResult result (λ _. string_bytes out.new ≡ string_bytes out.old ++ round_line roster.now.n roster.now.marks (ranking beacon.now) round) (λ e. e ≡ Memory) }
+    requires { covers (B.ranking beacon.now) round ≡ true }
+    ensures { MatchResult result (λ _. string_bytes out.new ≡ string_bytes out.old ++ round_line roster.now.n roster.now.marks (B.ranking beacon.now) round) (λ e. e ≡ Memory) }
 {
     let n = beacon.seat_count();
     let Some(seats) = seats_by_rank(beacon, round) else {
@@ -57,8 +57,8 @@ fn write_rounds<B: Beacon>(
     beacon: &B,
     rounds: u16,
 ) -> Result<(), DrawFault>
-    requires { covers (ranking beacon.now) rounds ≡ true }
-    ensures { MatchResult result (λ _. string_bytes out.new ≡ string_bytes out.old ++ round_lines roster.now.n roster.now.marks (ranking beacon.now) rounds) (λ e. e ≡ Memory) }
+    requires { covers (B.ranking beacon.now) rounds ≡ true }
+    ensures { MatchResult result (λ _. string_bytes out.new ≡ string_bytes out.old ++ round_lines roster.now.n roster.now.marks (B.ranking beacon.now) rounds) (λ e. e ≡ Memory) }
 {
     for before in 0..rounds {
         write_round(out, roster, beacon, before + 1)?;
@@ -81,7 +81,7 @@ pub fn report<B: Beacon>(
     beacon: &B,
     rounds: u16,
 ) -> Result<String, DrawFault>
-    ensures { MatchResult result (λ s. (beacon_fits roster.now.n (ranking beacon.now) rounds ≡ true) × (string_bytes s ≡ report_text roster.now.n roster.now.marks (ranking beacon.now) rounds)) (λ e. NoReport roster.now.n (ranking beacon.now) rounds e) }
+    ensures { MatchResult result (λ s. (beacon_fits roster.now.n (B.ranking beacon.now) rounds ≡ true) × (string_bytes s ≡ report_text roster.now.n roster.now.marks (B.ranking beacon.now) rounds)) (λ e. NoReport roster.now.n (B.ranking beacon.now) rounds e) }
 {
     if rounds == 0 || rounds > beacon.last_round() || beacon.seat_count() != roster.seat_count() {
         return Err(DrawFault::Rounds);

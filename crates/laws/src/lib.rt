@@ -1,4 +1,6 @@
 //! The laws of a bench: agreement, the leader's block and the time in a round, over every run of its calls.
+#![tactic(auto)]
+
 ghost use Rattle.std.specs.Prelude.{◌≡◌, true};
 ghost use Rattle.laws.specs.Laws.{NoRunSplitsTheRecord, NoMajorityRunSplitsTheRecord, RefusalsChangeNothing, OrderRowsStay};
 ghost use Rattle.laws.specs.Deadlines.{EveryRunIsInTime};

@@ -1,4 +1,6 @@
 //! The numbers of a bench: quorum, block numbers, weights and limits.
+#![tactic(auto)]
+
 ghost use Rattle.std.specs.Prelude.{◌≡◌, ◌+◌, ◌*◌, ◌<◌, ◌≤◌};
 ghost use Rattle.numbers.specs.Quorum.{majority_of, most_byzantine_of, weight_of_rank};
 

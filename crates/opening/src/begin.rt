@@ -24,7 +24,7 @@ pub fn open_tables<R: Record, B: Beacon>(
     beacon: &B,
     t: &mut Tables<R>,
 ) -> Result<Terms, BenchFault>
-    ensures is { record { answer = bare result; tables = rows_of t.new } ≡ opening (planned roster.now plan) (ranking beacon.now) R.Record.kind (rows_of t.old) }
+    ensures is { record { answer = bare result; tables = rows_of t.new } ≡ opening (planned roster.now plan) (B.ranking beacon.now) R.Record.kind (rows_of t.old) }
     ensures terms { IfOk result (λ b. (bench_of_terms b ≡ planned roster.now plan) × (b.clock ≡ 0)) }
     ensures same { SamePlaces t.new t.old }
 {

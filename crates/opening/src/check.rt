@@ -27,7 +27,7 @@ fn within(x: u16, limit: u16) -> bool
 
 // Whether a beacon gives orders for so many seats, and for as many rounds.
 fn serves<B: Beacon>(beacon: &B, seats: u8, rounds: u16) -> bool
-    ensures { result ≡ serves_bench (ranking beacon.now) (record { n = seats; marks = 0; delay = 0; rounds = rounds; editions = 0; quorum = 0 }) }
+    ensures { result ≡ serves_bench (B.ranking beacon.now) (record { n = seats; marks = 0; delay = 0; rounds = rounds; editions = 0; quorum = 0 }) }
 {
     beacon.seat_count() == seats && rounds <= beacon.last_round()
 }
@@ -36,7 +36,7 @@ fn serves<B: Beacon>(beacon: &B, seats: u8, rounds: u16) -> bool
 fn check_plan<B: Beacon>(plan: Plan, seats: u8, beacon: &B) -> Result<(), BenchFault>
     ensures { result ≡
         (if is_Within plan.delay 1000 then
-        (if (if is_Within plan.rounds 256 then serves_bench (ranking beacon.now) (record { n = seats; marks = 0; delay = 0; rounds = plan.rounds; editions = 0; quorum = 0 }) else false) then
+        (if (if is_Within plan.rounds 256 then serves_bench (B.ranking beacon.now) (record { n = seats; marks = 0; delay = 0; rounds = plan.rounds; editions = 0; quorum = 0 }) else false) then
         cond (is_Within plan.editions 8) (Ok tt)
         (Err EditionOutOfRange) else Err RoundOutOfRange) else Err DelayOutOfRange) }
 {
@@ -61,11 +61,11 @@ pub(crate) fn check_opening<R: Record, B: Beacon>(
     t: &Tables<R>,
 ) -> Result<Terms, BenchFault>
     ensures { MatchResult result
-        (λ b. (open_answer (planned roster.now plan) (ranking beacon.now) (rows_of t.now) ≡ Ok tt)
+        (λ b. (open_answer (planned roster.now plan) (B.ranking beacon.now) (rows_of t.now) ≡ Ok tt)
         × (bench_of_terms b ≡ planned roster.now plan)
         × (b.clock ≡ 0)
         × (fits_of (setup_of b t.now) (rows_of t.now) ≡ true))
-        (λ f. open_answer (planned roster.now plan) (ranking beacon.now) (rows_of t.now) ≡ Err f) }
+        (λ f. open_answer (planned roster.now plan) (B.ranking beacon.now) (rows_of t.now) ≡ Err f) }
 {
     let n = roster.seat_count();
     check_plan(plan, n, beacon)?;

@@ -16,7 +16,7 @@ pub(crate) fn fill<T: Copy>(rows: &mut [T], value: T)
 // Copies the orders of a beacon out, from round 1 on.
 pub(crate) fn fill_orders<B: Beacon>(beacon: &B, rows: &mut [[u8; 16]])
     requires { length rows.old ≤ 256 }
-    ensures { rows.new ≡ order_rows (ranking beacon.now) (length rows.old) }
+    ensures { rows.new ≡ order_rows (B.ranking beacon.now) (length rows.old) }
 {
     for i in 0..rows.len() {
         rows[i] = ranks_of(beacon, i as u16 + 1);

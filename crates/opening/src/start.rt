@@ -73,7 +73,7 @@ fn enter_seats<R: Record>(t: &mut Tables<R>)
 // The order rows, copied out from a beacon.
 fn copy_orders<R: Record, B: Beacon>(beacon: &B, t: &mut Tables<R>)
     requires { length t.old.orders.now ≤ 256 }
-    ensures is { rows_of t.new ≡ with_orders (rows_of t.old) (order_rows (ranking beacon.now) (length t.old.orders.now)) }
+    ensures is { rows_of t.new ≡ with_orders (rows_of t.old) (order_rows (B.ranking beacon.now) (length t.old.orders.now)) }
     ensures same { SamePlaces t.new t.old }
 {
     fill_orders(beacon, &mut *t.orders);
@@ -123,7 +123,7 @@ fn propose_all<R: Record>(terms: Terms, t: &mut Tables<R>)
 // Fills all tables of a new bench, whatever they held. They have the lengths that it requires.
 pub(crate) fn fill_tables<R: Record, B: Beacon>(terms: Terms, beacon: &B, t: &mut Tables<R>)
     requires { fits_of (setup_of terms t.old) (rows_of t.old) ≡ true }
-    ensures is { rows_of t.new ≡ opened (bench_of_terms terms) (ranking beacon.now) R.Record.kind }
+    ensures is { rows_of t.new ≡ opened (bench_of_terms terms) (B.ranking beacon.now) R.Record.kind }
     ensures same { SamePlaces t.new t.old }
 {
     copy_orders(beacon, &mut *t);

@@ -1,4 +1,6 @@
 //! Beacons: which seat leads each round, and who comes after it.
+#![tactic(auto)]
+
 ghost use Rattle.std.specs.Prelude.{◌≡◌, ℕ, ◌<◌, ◌≤◌, slice_index};
 ghost use Rattle.orders.specs.Ranking.{Order, Ranking, Lawful, rank_answer};
 ghost use Rattle.orders.specs.Rows.{order_row, seats_answer};
@@ -30,8 +32,8 @@ pub trait Beacon {
 
 /// A round's order by value: the rank of each seat, 0 past the last seat.
 pub fn ranks_of<B: Beacon>(beacon: &B, round: u16) -> [u8; 16]
-    ensures row { result ≡ order_row (ranking beacon.now) round }
-    ensures order { 1 ≤ round → round ≤ (ranking beacon.now).rounds → Order (ranking beacon.now).seats (λ s. slice_index result s) }
+    ensures row { result ≡ order_row (B.ranking beacon.now) round }
+    ensures order { 1 ≤ round → round ≤ (B.ranking beacon.now).rounds → Order (B.ranking beacon.now).seats (λ s. slice_index result s) }
 {
     let n = beacon.seat_count();
     let mut ranks = [0u8; 16];
@@ -43,7 +45,7 @@ pub fn ranks_of<B: Beacon>(beacon: &B, round: u16) -> [u8; 16]
 
 /// A round's seats in the order of their ranks, the leader first, 0 past the last seat; None outside the rounds.
 pub fn seats_by_rank<B: Beacon>(beacon: &B, round: u16) -> Option<[u8; 16]>
-    ensures { result ≡ seats_answer (ranking beacon.now) round }
+    ensures { result ≡ seats_answer (B.ranking beacon.now) round }
 {
     if round == 0 || round > beacon.last_round() {
         return None;

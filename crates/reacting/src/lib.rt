@@ -1,4 +1,5 @@
 //! How a seat reacts to what it has received: its votes, its proposal, and how it leaves a round.
+#![tactic(auto)]
 pub mod choice;
 mod departure;
 pub mod members;

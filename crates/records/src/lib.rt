@@ -1,4 +1,6 @@
 //! What blocks carry: record types, and the two that a joint gas record uses.
+#![tactic(auto)]
+
 ghost use Rattle.std.specs.Prelude.{◌≡◌};
 ghost use Rattle.records.specs.Kind.{Kind, IdleFollows};
 

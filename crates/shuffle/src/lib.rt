@@ -1,4 +1,6 @@
 //! The Shuffle: seats lead in an order drawn by lot.
+#![tactic(auto)]
+
 ghost use Rattle.std.specs.Prelude.{◌≡◌, ◌+◌, ◌%◌, ◌<◌, ◌≤◌, take, bit_xor};
 ghost use Rattle.orders.specs.Ranking.{seat_count};
 ghost use Rattle.shuffle.specs.SplitMix.{advanced, drawn};

@@ -1,4 +1,6 @@
 //! By which tick a round must be over, and by which an honest leader's posting must be final everywhere.
+#![tactic(auto)]
+
 ghost use Rattle.std.specs.Prelude.{◌≡◌, ◌+◌, ◌*◌, ◌≤◌, Some, None, MatchResult, count_ones};
 ghost use Rattle.timetable.specs.Promises.{deadline_refusal, RoundOverAfter, LeaderFinalBy};
 ghost use Rattle.timetable.specs.Deadlines.{last_tick_of, final_at};

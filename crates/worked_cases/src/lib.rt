@@ -1,4 +1,6 @@
 //! Worked cases: proved of the definitions in one table, and run on the code.
+#![tactic(auto)]
+
 ghost use Rattle.std.specs.Prelude.{◌≡◌};
 ghost use Rattle.worked_cases.specs.Table.{All, cases, how_many, LargeVolumeNeverFollows};
 

@@ -15,9 +15,9 @@ loop-k-preserved g c =
     let some : 1 ≤ r = search rules in
     let last : r ≤ m.rounds = search rules in
     let in_rounds : covers m r ≡ true = search rules in
-    let seat = found_seat m.seats (m.rank r) k c.first-place.result c.ranks-of-ranks.result (law.orders r some last) lt
-    (λ s h. ap (λ (row : _). get_or row s 0) c.ranks-of-ranks.ensures.row ∙ order_row_at m r s law.sixteen in_rounds h)
-    (search rules) c.first-place.ensures.before (λ h. c.first-place.ensures.found (search rules)) in
+    let seat = found_seat m.seats (m.rank r) k c.first_place.result c.ranks_of-ranks.result (law.orders r some last) lt
+    (λ s h. ap (λ (row : _). get_or row s 0) c.ranks_of-ranks.ensures.row ∙ order_row_at m r s law.sixteen in_rounds h)
+    (search rules) c.first_place.ensures.before (λ h. c.first_place.ensures.found (search rules)) in
     let room : k < length c.loop-k.seats = omega (arith, c.loop-k.invariant.2, law.sixteen) in (
       below_more _ _ (λ j h. let ne : j ≢ k = omega arith in rw get_or-set_other (c.loop-k.invariant.0 j h)) (rw get_or-set_same seat),
       (λ j h. let ne : j ≢ k = omega arith in rw get_or-set_other (c.loop-k.invariant.1 j (omega arith))),

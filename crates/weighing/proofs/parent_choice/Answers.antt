@@ -12,8 +12,8 @@ loop-x-init g c = search rules
 
 pub loop-x-preserved : goal.loop-x-preserved
 loop-x-preserved g c =
-    heavier_more (setup_of c.args.terms c.args.t.now) (view c.args.terms c.args.t.now) c.args.seat c.args.round c.args.lowest c.loop-x.x (c.round-start-from.result + c.loop-x.x) c.loop-x.best c.heavier-best.result
-    (ap (λ (y : ℕ). y + c.loop-x.x) (c.round-start-from.ensures.is c.args.t.now.orders.now)) c.loop-x.invariant c.heavier-best.ensures
+    heavier_more (setup_of c.args.terms c.args.t.now) (view c.args.terms c.args.t.now) c.args.seat c.args.round c.args.lowest c.loop-x.x (c.round_start-from.result + c.loop-x.x) c.loop-x.best c.heavier-best.result
+    (ap (λ (y : ℕ). y + c.loop-x.x) (c.round_start-from.ensures.is c.args.t.now.orders.now)) c.loop-x.invariant c.heavier-best.ensures
 
 pub returns : goal.returns
 returns g c =

@@ -15,4 +15,4 @@ loop-before-preserved g c =
     let m : Ranking = g.B.Beacon.ranking c.args.beacon.now in
     let line : ℕ → List ℕ = round_line c.args.roster.now.n c.args.roster.now.marks m in
     let more = lines_more line (string_bytes c.args.out.now) c.loop-before.before (c.loop-before.before + 1) (omega arith) in
-    c.in-ok-write-round.ensures ∙ ap (λ (x : List ℕ). x ++ line (c.loop-before.before + 1)) c.loop-before.invariant ∙ more
+    c.in_ok-write_round.ensures ∙ ap (λ (x : List ℕ). x ++ line (c.loop-before.before + 1)) c.loop-before.invariant ∙ more

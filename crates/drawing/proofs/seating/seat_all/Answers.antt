@@ -2,8 +2,8 @@ use Rattle.std.proofs.Common.{rules}
 use Rattle.drawing.proofs.Marking.{marked_step, marked_end}
 use Rattle.drawing.proofs.seating.seat_all.Goals as goal
 
-pub returns-in-err-mark : goal.returns-in-err-mark
-returns-in-err-mark c =
+pub returns-in_err-mark : goal.returns-in_err-mark
+returns-in_err-mark c =
     let step = marked_step c.args.n c.loop-s.roster.marks c.args.byzantine.now c.loop-s.s-index (search rules) in
     search rules
 

@@ -7,15 +7,15 @@ use Rattle.holding.proofs.notarised.lowest_notarised.Goals as goal
 
 pub returns-then-holds-notarisation : goal.returns-then-holds-notarisation
 returns-then-holds-notarisation g c =
-    let e = first_step (holds_notarisation (setup_of c.args.terms c.args.t.now) (view c.args.terms c.args.t.now) c.args.seat) (c.round-start-from.result + c.loop-x.x) (c.round-width-width.result - c.loop-x.x) in
+    let e = first_step (holds_notarisation (setup_of c.args.terms c.args.t.now) (view c.args.terms c.args.t.now) c.args.seat) (c.round_start-from.result + c.loop-x.x) (c.round_width-width.result - c.loop-x.x) in
     search rules
 
 pub loop-x-preserved : goal.loop-x-preserved
 loop-x-preserved g c =
-    let e = first_step (holds_notarisation (setup_of c.args.terms c.args.t.now) (view c.args.terms c.args.t.now) c.args.seat) (c.round-start-from.result + c.loop-x.x) (c.round-width-width.result - c.loop-x.x) in
+    let e = first_step (holds_notarisation (setup_of c.args.terms c.args.t.now) (view c.args.terms c.args.t.now) c.args.seat) (c.round_start-from.result + c.loop-x.x) (c.round_width-width.result - c.loop-x.x) in
     search rules
 
 pub returns : goal.returns
 returns g c =
-    let e = first_step (holds_notarisation (setup_of c.args.terms c.args.t.now) (view c.args.terms c.args.t.now) c.args.seat) (c.round-start-from.result + c.loop-x.x) (c.round-width-width.result - c.loop-x.x) in
+    let e = first_step (holds_notarisation (setup_of c.args.terms c.args.t.now) (view c.args.terms c.args.t.now) c.args.seat) (c.round_start-from.result + c.loop-x.x) (c.round_width-width.result - c.loop-x.x) in
     search rules

@@ -5,8 +5,8 @@ use Rattle.tables.specs.View.{rows_of}
 use Rattle.opening.proofs.Refusals.{open_is}
 use Rattle.opening.proofs.check.check_opening.Goals as goal
 
-pub returns-in-err-check-plan : goal.returns-in-err-check-plan
-returns-in-err-check-plan g c =
+pub returns-in_err-check_plan : goal.returns-in_err-check_plan
+returns-in_err-check_plan g c =
     let e = open_is (bench_of c.args.roster.now c.args.plan.delay c.args.plan.rounds c.args.plan.editions (majority_of c.args.roster.now.n)) (g.B.Beacon.ranking c.args.beacon.now) (rows_of c.args.t.now) in
     search rules
 

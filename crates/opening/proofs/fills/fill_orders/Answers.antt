@@ -9,8 +9,8 @@ loop-i-init g c = search rules
 
 pub loop-i-preserved : goal.loop-i-preserved
 loop-i-preserved g c =
-    fill_step (order_row (g.B.Beacon.ranking c.args.beacon.now)) 1 c.loop-i.i (c.loop-i.i + 1) c.loop-i.rows c.ranks-of.result
-    (omega arith) (omega arith) c.ranks-of.ensures.row c.loop-i.invariant
+    fill_step (order_row (g.B.Beacon.ranking c.args.beacon.now)) 1 c.loop-i.i (c.loop-i.i + 1) c.loop-i.rows c.ranks_of.result
+    (omega arith) (omega arith) c.ranks_of.ensures.row c.loop-i.invariant
 
 pub returns : goal.returns
 returns g c =

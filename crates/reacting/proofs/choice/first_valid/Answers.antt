@@ -8,17 +8,17 @@ use Rattle.reacting.proofs.choice.first_valid.Goals as goal
 pub returns-then-holds-valid : goal.returns-then-holds-valid
 returns-then-holds-valid g c =
     let s = setup_of c.args.terms c.args.t.now in
-    let e = first_step (holds_valid s g.R.Record.kind (view c.args.terms c.args.t.now) c.args.seat) (round_start s c.args.round + c.loop-x.x) (c.round-width-width.result - c.loop-x.x) in
+    let e = first_step (holds_valid s g.R.Record.kind (view c.args.terms c.args.t.now) c.args.seat) (round_start s c.args.round + c.loop-x.x) (c.round_width-width.result - c.loop-x.x) in
     search rules
 
 pub loop-x-preserved : goal.loop-x-preserved
 loop-x-preserved g c =
     let s = setup_of c.args.terms c.args.t.now in
-    let e = first_step (holds_valid s g.R.Record.kind (view c.args.terms c.args.t.now) c.args.seat) (round_start s c.args.round + c.loop-x.x) (c.round-width-width.result - c.loop-x.x) in
+    let e = first_step (holds_valid s g.R.Record.kind (view c.args.terms c.args.t.now) c.args.seat) (round_start s c.args.round + c.loop-x.x) (c.round_width-width.result - c.loop-x.x) in
     search rules
 
 pub returns : goal.returns
 returns g c =
     let s = setup_of c.args.terms c.args.t.now in
-    let e = first_step (holds_valid s g.R.Record.kind (view c.args.terms c.args.t.now) c.args.seat) (round_start s c.args.round + c.loop-x.x) (c.round-width-width.result - c.loop-x.x) in
+    let e = first_step (holds_valid s g.R.Record.kind (view c.args.terms c.args.t.now) c.args.seat) (round_start s c.args.round + c.loop-x.x) (c.round_width-width.result - c.loop-x.x) in
     search rules

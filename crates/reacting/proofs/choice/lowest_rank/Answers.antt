@@ -10,8 +10,8 @@ loop-x-init g c = search rules
 
 pub loop-x-preserved : goal.loop-x-preserved
 loop-x-preserved g c =
-    lower_more (setup_of c.args.terms c.args.t.now) g.R.Record.kind (view c.args.terms c.args.t.now) c.args.seat c.args.round c.args.first c.loop-x.x c.nth-block-block.result c.loop-x.low c.lower-rank-low.result
-    (c.nth-block-block.ensures.is c.args.t.now.orders.now) c.loop-x.invariant c.lower-rank-low.ensures
+    lower_more (setup_of c.args.terms c.args.t.now) g.R.Record.kind (view c.args.terms c.args.t.now) c.args.seat c.args.round c.args.first c.loop-x.x c.nth_block-block.result c.loop-x.low c.lower_rank-low.result
+    (c.nth_block-block.ensures.is c.args.t.now.orders.now) c.loop-x.invariant c.lower_rank-low.ensures
 
 pub returns : goal.returns
 returns g c =

@@ -5,6 +5,6 @@ use Rattle.reacting.proofs.departure.leave.Goals as goal
 
 pub returns : goal.returns
 returns g c = record {
-  is = c.propose-and-move-on.ensures.is ∙ moved_is (setup_of c.args.terms c.args.t.now) g.R.Record.kind (view c.args.terms c.args.t.now) c.args.seat c.args.past c.args.lowest;
-  same = c.propose-and-move-on.ensures.same;
+  is = c.propose_and_move_on.ensures.is ∙ moved_is (setup_of c.args.terms c.args.t.now) g.R.Record.kind (view c.args.terms c.args.t.now) c.args.seat c.args.past c.args.lowest;
+  same = c.propose_and_move_on.ensures.same;
 }

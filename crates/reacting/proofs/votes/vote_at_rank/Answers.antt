@@ -12,8 +12,8 @@ loop-x-init g c = search rules
 
 pub loop-x-preserved : goal.loop-x-preserved
 loop-x-preserved g c = (
-  vote_more (setup_of c.args.terms c.args.t.now) g.R.Record.kind (setup_of c.args.terms c.loop-x.t) (view c.args.terms c.args.t.now) (view c.args.terms c.loop-x.t) (view c.args.terms c.vote-if-lowest.new.t) c.args.seat c.args.low c.args.round c.loop-x.x c.nth-block-block.result
-      (ap (setup_with (bench_of_terms c.args.terms)) c.loop-x.invariant.1.order_rows) (c.nth-block-block.ensures.is c.args.t.now.orders.now) c.loop-x.invariant.0 c.vote-if-lowest.ensures.is,
+  vote_more (setup_of c.args.terms c.args.t.now) g.R.Record.kind (setup_of c.args.terms c.loop-x.t) (view c.args.terms c.args.t.now) (view c.args.terms c.loop-x.t) (view c.args.terms c.vote_if_lowest.new.t) c.args.seat c.args.low c.args.round c.loop-x.x c.nth_block-block.result
+      (ap (setup_with (bench_of_terms c.args.terms)) c.loop-x.invariant.1.order_rows) (c.nth_block-block.ensures.is c.args.t.now.orders.now) c.loop-x.invariant.0 c.vote_if_lowest.ensures.is,
   search rules,
   search rules,
 )

@@ -11,5 +11,5 @@ returns-else-looks-back g c = search rules
 pub returns-then-looks-back : goal.returns-then-looks-back
 returns-then-looks-back g c =
     let s = setup_of c.args.terms c.args.t.now in
-    let e = next_by s g.R.Record.kind (view c.args.terms c.args.t.now) c.args.seat c.seat-row-row.result (search rules) (search rules) in
+    let e = next_by s g.R.Record.kind (view c.args.terms c.args.t.now) c.args.seat c.seat_row-row.result (search rules) (search rules) in
     search rules

@@ -14,4 +14,4 @@ unfolding timetable_lines
 loop-before-preserved g c =
     let line : ℕ → List ℕ = round_line (ones c.args.roster.now.marks) c.args.delay in
     let more = lines_more line (string_bytes c.args.out.now) c.loop-before.before (c.loop-before.before + 1) (omega arith) in
-    c.in-ok-write-round.ensures ∙ ap (λ (x : List ℕ). x ++ line (c.loop-before.before + 1)) c.loop-before.invariant ∙ more
+    c.in_ok-write_round.ensures ∙ ap (λ (x : List ℕ). x ++ line (c.loop-before.before + 1)) c.loop-before.invariant ∙ more

@@ -4,8 +4,8 @@ use Rattle.numbers.proofs.Numbers.{id_within, round_past_zero}
 use Rattle.numbers.proofs.size.Size.id_of.Goals as goal
 
 -- the round fits its 16 bits, since it is at most the last
-pub overflow-cast-result-2 : goal.overflow-cast-result-2
-overflow-cast-result-2 c =
+pub overflow_cast-result-2 : goal.overflow_cast-result-2
+overflow_cast-result-2 c =
     let z = c.args.self.now in
     let b = c.args.block in
     let some : 1 ≤ b = search rules in

@@ -6,5 +6,5 @@ use Rattle.terms.proofs.terms.Terms.round_width.Goals as goal
 pub returns : goal.returns
 returns c = record { is = refl; most = width_most c.args.self.n c.args.self.editions (search rules) (search rules) }
 
-pub overflow-mul-result : goal.overflow-mul-result
-overflow-mul-result c = let m = width_most c.args.self.n c.args.self.editions (search rules) (search rules) in search rules
+pub overflow_mul-result : goal.overflow_mul-result
+overflow_mul-result c = let m = width_most c.args.self.n c.args.self.editions (search rules) (search rules) in search rules
