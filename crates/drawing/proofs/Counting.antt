@@ -1,5 +1,5 @@
 -- Counting the rounds that an honest seat leads: one more round.
-use Rattle.std.proofs.Common.{◌≡◌, ℕ, zero, suc, ◌+◌, cond, refl, add-one}
+use Rattle.std.proofs.Common.{◌≡◌, ℕ, ◌+◌, cond, refl, add-one}
 use Rattle.orders.specs.Ranking.{Ranking}
 use Rattle.drawing.specs.Leaders.{honest_leads, honest_led}
 

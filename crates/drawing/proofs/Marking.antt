@@ -1,8 +1,7 @@
 -- Marking a list of seats: one step, and the end.
-use Rattle.std.proofs.Common.{◌≡◌, ℕ, ◌+◌, ◌<◌, ◌≤◌, List, [], ◌∷◌, length, get_or, drop, Ok, Err, Result, refl, ap, ◌∙◌}
+use Rattle.std.proofs.Common.{◌≡◌, ℕ, ◌+◌, ◌<◌, ◌≤◌, List, length, get_or, drop, Ok}
 use Rattle.std.proofs.lemmas.List.{at_drop_more, at_drop_all}
 use Rattle.roster.specs.Marks.{mark_answer, marks_after}
-use Rattle.roster.specs.declared.fault.RosterFault.{RosterFault}
 use Rattle.drawing.specs.Seating.{marked_all, unless_refused}
 
 pub marked_step : (n marks : ℕ) (xs : List ℕ) (i : ℕ) → i < length xs

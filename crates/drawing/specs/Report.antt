@@ -1,8 +1,8 @@
 -- The text of a drawing.
-use Rattle.std.specs.Prelude.{◌≡◌, ℕ, Bool, true, false, cond, List, ◌++◌, take, codes, decimal, count_ones}
+use Rattle.std.specs.Prelude.{◌≡◌, ℕ, Bool, true, false, List, ◌++◌, take, codes, decimal, count_ones}
 use Rattle.std.specs.List.{flat_map}
 use Rattle.numbers.specs.Quorum.{majority_of, most_byzantine_of}
-use Rattle.orders.specs.Ranking.{Ranking, covers, seat_of_rank}
+use Rattle.orders.specs.Ranking.{Ranking, seat_of_rank}
 use Rattle.orders.specs.Rows.{numbers, row_of_sixteen}
 use Rattle.roster.specs.Marks.{is_honest}
 use Rattle.drawing.specs.Leaders.{leader_of, honest_led, beacon_fits}

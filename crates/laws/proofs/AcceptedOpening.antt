@@ -9,7 +9,7 @@ use Rattle.orders.proofs.Rows.{length_numbers, get_or-numbers, order_row_at}
 use Rattle.roster.specs.declared.roster.Roster.{Roster}
 use Rattle.rules.specs.declared.fault.BenchFault.{BenchFault}
 use Rattle.rules.specs.declared.fault.BenchFault.TheVariants.{DelayOutOfRange, RoundOutOfRange, EditionOutOfRange, TableLength}
-use Rattle.rules.specs.Setup.{Bench, Setup, setup_with}
+use Rattle.rules.specs.Setup.{Bench, setup_with}
 use Rattle.rules.specs.Ranks.{rank_at}
 use Rattle.rules.specs.Tables.{Tables, setup_at, fits}
 use Rattle.rules.specs.Opening.{bench_of, within, serves, open_answer}

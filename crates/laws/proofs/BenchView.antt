@@ -1,5 +1,5 @@
 -- What is seen of the tables of a bench, and what the laws ask of its setup.
-use Rattle.std.proofs.Common.{◌≡◌, ℕ, ◌+◌, ◌^◌, ◌<◌, ◌≤◌, Bool, false, cond, ltb}
+use Rattle.std.proofs.Common.{ℕ, ◌+◌, ◌^◌, ◌<◌, ◌≤◌, false, cond, ltb}
 use lib.Count.{ones}
 use Rattle.orders.specs.Ranking.{Order, seat_of_rank}
 use Rattle.records.specs.Kind.{Kind}

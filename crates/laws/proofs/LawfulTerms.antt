@@ -1,5 +1,5 @@
 -- The terms of a proper setup are lawful: the numbering of the blocks and the order of the seats give what the laws ask.
-use Rattle.std.proofs.Common.{◌≡◌, ℕ, ◌<◌, ◌≤◌, sym, refl, ap, ◌∙◌}
+use Rattle.std.proofs.Common.{ℕ, sym, refl, ap, ◌∙◌}
 use Rattle.orders.specs.Ranking.{seat_of_rank}
 use Rattle.orders.proofs.Orders.{order_seat}
 use Rattle.rules.specs.Setup.{Setup, block_round, block_owner, own_block}

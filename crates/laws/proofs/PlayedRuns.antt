@@ -1,11 +1,11 @@
 -- Runs of calls, computed: the answers and all tables at the end, as another program of the same rules gave them.
-use Rattle.std.proofs.Common.{◌≡◌, ℕ, true, false, List, [], ◌∷◌, Some, None, Ok, Err, Option, Result, refl}
+use Rattle.std.proofs.Common.{◌≡◌, ℕ, true, List, [], ◌∷◌, Some, None, Ok, Err, Option, Result, refl}
 use lib.Count.{ones}
 use Rattle.records.specs.declared.turn.Turn.{Turn}
 use Rattle.records.specs.Turn.{turn_kind}
 use Rattle.records.specs.Kind.{Kind}
 use Rattle.rules.specs.declared.fault.BenchFault.{BenchFault}
-use Rattle.rules.specs.declared.rows.Phase.TheVariants.{Waiting, Voting, Resting}
+use Rattle.rules.specs.declared.rows.Phase.TheVariants.{Waiting, Resting}
 use Rattle.rules.specs.declared.rows.BlockRow.{BlockRow}
 use Rattle.rules.specs.declared.rows.SeatRow.{SeatRow}
 use Rattle.rules.specs.declared.rows.ReceivedRow.{ReceivedRow}

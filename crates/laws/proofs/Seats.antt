@@ -1,5 +1,5 @@
 -- Sets of seats: how many are in one, and that no more than f seats are Byzantine.
-use Rattle.std.proofs.Common.{◌≡◌, ℕ, zero, suc, ◌/◌, ◌%◌, ◌^◌, ◌<◌, ◌≤◌, Bool, true, false, cond, not, T, ltb, sym, refl, subst, le_refl, arith, ltb→lt, lt→ltb}
+use Rattle.std.proofs.Common.{◌≡◌, ℕ, zero, suc, ◌/◌, ◌%◌, ◌^◌, ◌<◌, ◌≤◌, Bool, true, false, cond, not, T, ltb, sym, subst, le_refl, arith, ltb→lt, lt→ltb}
 use lib.Count.{ones}
 use Rattle.roster.specs.Marks.{is_marked}
 use Rattle.rules.specs.Counting.{count}

@@ -1,5 +1,5 @@
 -- A bench of one honest seat with Δ = 1, two rounds and one edition, and heat records, driven by six ticks.
-use Rattle.std.specs.Prelude.{◌≡◌, ℕ, List, [], ◌∷◌, Ok, Err, Result}
+use Rattle.std.specs.Prelude.{◌≡◌, List, [], ◌∷◌, Ok, Err, Result}
 use Rattle.numbers.specs.Quorum.{majority_of}
 use Rattle.orders.specs.Wheel.{wheel_ranking}
 use Rattle.records.specs.declared.heat.Heat.{Heat}

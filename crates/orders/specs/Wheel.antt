@@ -1,6 +1,6 @@
 -- The Wheel: in round r the seat r mod n leads, and the others follow in turn.
 use Rattle.std.specs.Prelude.{ℕ, ◌+◌, ◌-◌, ◌%◌}
-use Rattle.orders.specs.Ranking.{Ranking, seat_count}
+use Rattle.orders.specs.Ranking.{Ranking}
 
 -- the rank of seat s in round r among n seats
 abbrev pub wheel_rank : ℕ → ℕ → ℕ → ℕ

@@ -1,5 +1,5 @@
 -- Heat records: what a reading adds to the running total.
-use Rattle.std.specs.Prelude.{Bool, ◌&&◌, ℕ, ◌+◌, ◌*◌, eqb, leb}
+use Rattle.std.specs.Prelude.{Bool, ◌&&◌, ◌+◌, ◌*◌, eqb, leb}
 use Rattle.records.specs.Kind.{Kind}
 use Rattle.records.specs.declared.heat.Heat.{Heat}
 

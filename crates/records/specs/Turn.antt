@@ -1,5 +1,5 @@
 -- Turn records: who holds the turn.
-use Rattle.std.specs.Prelude.{Bool, not, ◌&&◌, ◌||◌, ℕ, ◌+◌, eqb, leb}
+use Rattle.std.specs.Prelude.{Bool, not, ◌&&◌, ◌||◌, ◌+◌, eqb, leb}
 use Rattle.records.specs.Kind.{Kind}
 use Rattle.records.specs.declared.turn.Turn.{Turn}
 

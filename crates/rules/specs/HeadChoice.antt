@@ -1,5 +1,5 @@
 -- The final head of a seat when its wait ends.
-use Rattle.std.specs.Prelude.{ℕ, ◌-◌, Bool, false, cond, not, Some, None, Option, ◌==◌, nat_le}
+use Rattle.std.specs.Prelude.{ℕ, ◌-◌, false, cond, not, Some, None, Option, ◌==◌, nat_le}
 use Rattle.records.specs.Kind.{Kind}
 use Rattle.rules.specs.Loops.{first_from, is_some}
 use Rattle.rules.specs.Setup.{Setup, round_start, round_width}

@@ -1,5 +1,5 @@
 -- Opening a bench: its refusals, and the tables after it.
-use Rattle.std.specs.Prelude.{ℕ, ◌+◌, ◌*◌, Bool, true, false, cond, List, ◌∷◌, replicate, None, Ok, Err, Result, ◌==◌, nat_le, nat_lt}
+use Rattle.std.specs.Prelude.{ℕ, ◌+◌, ◌*◌, Bool, true, false, cond, ◌∷◌, replicate, None, Ok, Err, Result, ◌==◌, nat_le, nat_lt}
 use Rattle.orders.specs.Ranking.{Ranking}
 use Rattle.orders.specs.Rows.{order_rows}
 use Rattle.records.specs.Kind.{Kind}

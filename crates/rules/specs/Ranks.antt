@@ -1,5 +1,5 @@
 -- The ranks of the seats, as the order rows have them.
-use Rattle.std.specs.Prelude.{ℕ, ◌-◌, List, [], slice_index, slice_index_or}
+use Rattle.std.specs.Prelude.{ℕ, ◌-◌, [], slice_index, slice_index_or}
 use Rattle.rules.specs.Setup.{Setup, block_round, block_owner}
 
 module _ (s : Setup) where

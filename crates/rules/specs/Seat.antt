@@ -1,5 +1,5 @@
 -- One seat's round: it enters and proposes, waits, votes and leaves.
-use Rattle.std.specs.Prelude.{ℕ, suc, ◌+◌, ◌-◌, ◌*◌, ◌^◌, Bool, true, cond, Some, None, Option, nat_le, slice_set}
+use Rattle.std.specs.Prelude.{ℕ, suc, ◌+◌, ◌-◌, ◌*◌, ◌^◌, true, cond, Some, None, Option, nat_le, slice_set}
 use Rattle.records.specs.Kind.{Kind}
 use Rattle.rules.specs.declared.rows.Phase.{Phase}
 use Rattle.rules.specs.declared.rows.Phase.TheVariants.{Waiting, Voting, Resting}

@@ -1,7 +1,7 @@
 -- The Shuffle: each round's order is drawn by SplitMix64.
 use Rattle.std.specs.Prelude.{ℕ, zero, suc, ◌+◌, ◌-◌, ◌%◌, cond, List, [], ◌∷◌, ◌==◌, bit_xor, slice_index, slice_set}
 use Rattle.shuffle.specs.SplitMix.{draws}
-use Rattle.orders.specs.Ranking.{Ranking, seat_count}
+use Rattle.orders.specs.Ranking.{Ranking}
 use Rattle.orders.specs.Rows.{numbers}
 
 -- places i and j exchanged

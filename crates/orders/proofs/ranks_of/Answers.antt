@@ -1,4 +1,4 @@
-use Rattle.std.proofs.Common.{◌≡◌, ℕ, ◌<◌, ◌≤◌, get_or, rules}
+use Rattle.std.proofs.Common.{get_or, rules}
 use Rattle.orders.specs.Ranking.{Ranking, rank_answer}
 use Rattle.orders.proofs.Orders.{order_same}
 use Rattle.orders.proofs.Rows.{is_row}

@@ -1,5 +1,4 @@
-use Rattle.std.proofs.Common.{◌≡◌, ℕ, ◌<◌, ◌≤◌, true, ◌≢◌, length, get_or, Some, ap, ◌∙◌, arith, get_or-set_other, get_or-set_same, rules, below_more}
-use Rattle.std.proofs.lemmas.Bool.{cond-true}
+use Rattle.std.proofs.Common.{◌≡◌, ◌<◌, ◌≤◌, true, ◌≢◌, length, get_or, Some, ap, ◌∙◌, arith, get_or-set_other, get_or-set_same, rules, below_more}
 use Rattle.orders.specs.Ranking.{Ranking, covers, seat_of_rank}
 use Rattle.orders.proofs.Orders.{found_seat}
 use Rattle.orders.proofs.Rows.{is_row, order_row_at}

@@ -1,6 +1,6 @@
-use Rattle.std.proofs.Common.{◌≡◌, ℕ, ◌+◌, ◌-◌, ◌%◌, ◌<◌, ◌≤◌, length, get_or, take, sym, refl, ap, ◌∙◌, mod-lt, arith, rules}
+use Rattle.std.proofs.Common.{◌≡◌, ◌+◌, ◌-◌, ◌%◌, ◌<◌, take, mod-lt, arith, rules}
 use Rattle.shuffle.specs.SplitMix.{advanced, drawn, draws}
-use Rattle.shuffle.specs.Shuffle.{arrangement, shuffled, exchanged}
+use Rattle.shuffle.specs.Shuffle.{arrangement, shuffled}
 use Rattle.shuffle.specs.ShuffleOrder.{start_list, take_exchanged, shuffled_step, shuffled_done, sixteen}
 use Rattle.shuffle.proofs.arrange.Goals as goal
 

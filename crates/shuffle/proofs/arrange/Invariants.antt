@@ -1,4 +1,4 @@
-use Rattle.std.proofs.Common.{◌≡◌, ℕ, ◌-◌, ◌≤◌, length, take}
+use Rattle.std.proofs.Common.{◌≡◌, ◌-◌, ◌≤◌, length, take}
 use Rattle.shuffle.specs.SplitMix.{draws}
 use Rattle.shuffle.specs.Shuffle.{arrangement, shuffled}
 use Rattle.shuffle.proofs.arrange.Given as goal

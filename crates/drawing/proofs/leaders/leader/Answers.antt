@@ -1,6 +1,5 @@
-use Rattle.std.proofs.Common.{◌≡◌, true, get_or, rules}
-use Rattle.orders.specs.Ranking.{Ranking, covers, seat_of_rank}
-use Rattle.orders.specs.Rows.{row_of_sixteen}
+use Rattle.std.proofs.Common.{rules}
+use Rattle.orders.specs.Ranking.{Ranking, seat_of_rank}
 use Rattle.orders.proofs.Rows.{sixteen_at}
 use Rattle.drawing.proofs.leaders.leader.Goals as goal
 

@@ -1,4 +1,4 @@
-use Rattle.std.proofs.Common.{◌≡◌, ℕ, ◌+◌, List, ◌++◌, string_bytes, sym, ap, ◌∙◌, append-nil, arith}
+use Rattle.std.proofs.Common.{ℕ, ◌+◌, List, ◌++◌, string_bytes, sym, ap, ◌∙◌, append-nil, arith}
 use Rattle.orders.specs.Ranking.{Ranking}
 use Rattle.orders.specs.Rows.{numbers}
 use Rattle.drawing.specs.Report.{round_line, round_lines}

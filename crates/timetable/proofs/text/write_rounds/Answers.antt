@@ -1,4 +1,4 @@
-use Rattle.std.proofs.Common.{◌≡◌, ℕ, ◌+◌, List, ◌++◌, string_bytes, sym, ap, ◌∙◌, append-nil, arith}
+use Rattle.std.proofs.Common.{ℕ, ◌+◌, List, ◌++◌, string_bytes, sym, ap, ◌∙◌, append-nil, arith}
 use lib.Count.{ones}
 use Rattle.orders.specs.Rows.{numbers}
 use Rattle.orders.proofs.Rows.{lines_more}
