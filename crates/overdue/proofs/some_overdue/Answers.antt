@@ -54,14 +54,14 @@ receivers-init g c = any_none (certificate_lacking (setup_of c.args.terms c.args
 pub receivers-preserved : goal.receivers-preserved
 receivers-preserved g c = let e = any_more (certificate_lacking (setup_of c.args.terms c.args.t.now) (view c.args.terms c.args.t.now) c.senders.sender c.left.past) c.receivers.seat in search rules
 
-pub returns-then-lacks-block : goal.returns-then-lacks-block
-returns-then-lacks-block g c = block_hit (setup_of c.args.terms c.args.t.now) (view c.args.terms c.args.t.now) c.made.block c.holders.seat (search rules) (search rules) (search rules) (search rules)
+pub returns-then-lacks_block : goal.returns-then-lacks_block
+returns-then-lacks_block g c = block_hit (setup_of c.args.terms c.args.t.now) (view c.args.terms c.args.t.now) c.made.block c.holders.seat (search rules) (search rules) (search rules) (search rules)
 
-pub returns-then-lacks-vote : goal.returns-then-lacks-vote
-returns-then-lacks-vote g c = vote_hit (setup_of c.args.terms c.args.t.now) (view c.args.terms c.args.t.now) c.voted.block c.voters.voter c.hearers.seat (search rules) (search rules) (search rules) (search rules) (search rules)
+pub returns-then-lacks_vote : goal.returns-then-lacks_vote
+returns-then-lacks_vote g c = vote_hit (setup_of c.args.terms c.args.t.now) (view c.args.terms c.args.t.now) c.voted.block c.voters.voter c.hearers.seat (search rules) (search rules) (search rules) (search rules) (search rules)
 
-pub returns-then-lacks-certificate : goal.returns-then-lacks-certificate
-returns-then-lacks-certificate g c = certificate_hit (setup_of c.args.terms c.args.t.now) (view c.args.terms c.args.t.now) c.senders.sender c.left.past c.receivers.seat (search rules) (search rules) (search rules) (search rules) (search rules)
+pub returns-then-lacks_certificate : goal.returns-then-lacks_certificate
+returns-then-lacks_certificate g c = certificate_hit (setup_of c.args.terms c.args.t.now) (view c.args.terms c.args.t.now) c.senders.sender c.left.past c.receivers.seat (search rules) (search rules) (search rules) (search rules) (search rules)
 
 pub returns-after-senders : goal.returns-after-senders
 returns-after-senders g c = none_found (setup_of c.args.terms c.args.t.now) (view c.args.terms c.args.t.now) (search rules) (search rules) (search rules)

@@ -1,4 +1,4 @@
 use Rattle.holding.proofs.taking.+take_chain.Given as goal
 
-abbrev pub decreases-take-chain : goal.decreases-take_chain
-decreases-take-chain g l = l.round
+abbrev pub decreases-take_chain : goal.decreases-take_chain
+decreases-take_chain g l = l.round

@@ -3,7 +3,7 @@ use Rattle.tables.specs.View.{view, setup_of}
 use Rattle.ticking.proofs.Turns.{due_waits}
 use Rattle.ticking.proofs.due.end_if_due.Goals as goal
 
-pub end-wait-requires : goal.end-wait-requires
-end-wait-requires g c =
+pub end_wait-requires : goal.end_wait-requires
+end_wait-requires g c =
     let e = due_waits (setup_of c.args.terms c.args.t.now) (view c.args.terms c.args.t.now) c.args.seat (search rules) in
     search rules
