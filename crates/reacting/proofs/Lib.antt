@@ -1,2 +1,3 @@
 pub mod BlocksOfRound
 pub mod PartsJoined
+pub mod PastTheRounds

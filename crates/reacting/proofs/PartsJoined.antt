@@ -5,8 +5,8 @@ use Rattle.rules.specs.Setup.{Setup}
 use Rattle.rules.specs.Tables.{Tables, received_at}
 use Rattle.rules.specs.Holding.{lowest_notarised}
 use Rattle.rules.specs.ParentChoice.{parent_choice}
-use Rattle.rules.specs.Seat.{propose, moves_on, vote, leave, leave_by, react_in, react}
-use Rattle.reacting.specs.Parts.{proposal_written, proposed, moved_on, reacted_in, reacted}
+use Rattle.rules.specs.Seat.{propose, moves_on, vote, leave, leave_by, react_in}
+use Rattle.reacting.specs.Parts.{proposal_written, proposed, moved_on, reacted_in, reacted, reacts}
 
 module _ {A : Type 0} (s : Setup) (K : Kind A) (t : Tables A) (i : ℕ) where
   pub proposal_is : (r p : ℕ) → proposal_written s K t i r p ≡ propose s K t i r p
@@ -26,6 +26,6 @@ module _ {A : Type 0} (s : Setup) (K : Kind A) (t : Tables A) (i : ℕ) where
       let f : r + 1 ≡ suc r = omega arith in
       λ k. leave_by s K t i r (lowest_notarised s t i (f k)) (leave_by s K (vote s K t i (f k)) i r (lowest_notarised s (vote s K t i (f k)) i (f k)) (vote s K t i (f k)))
 
-  pub reacted_is : reacted s K t i ≡ react s K t i
-  unfolding react
+  pub reacted_is : reacted s K t i ≡ reacts s K t i
+  unfolding reacts
   reacted_is = refl

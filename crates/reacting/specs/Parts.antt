@@ -1,11 +1,13 @@
 -- Proposing, leaving and reacting in the parts that the code has.
 use Rattle.std.specs.Prelude.{ℕ, ◌+◌, ◌-◌, true, cond, nat_le}
 use Rattle.records.specs.Kind.{Kind}
+use Rattle.rules.specs.declared.rows.Phase.{Phase}
+use Rattle.rules.specs.declared.rows.Phase.TheVariants.{Waiting, Voting, Resting}
 use Rattle.rules.specs.Setup.{Setup, own_block}
 use Rattle.rules.specs.Tables.{Tables, record_at, draft_at, seat_at, received_at}
 use Rattle.rules.specs.Holding.{takes_in, lowest_notarised}
 use Rattle.rules.specs.ParentChoice.{parent_choice}
-use Rattle.rules.specs.Seat.{proposed_record, draft_left, propose, moves_on, vote, leave_by, react_as}
+use Rattle.rules.specs.Seat.{proposed_record, draft_left, propose, moves_on, vote, leave_by, react_in}
 use Rattle.writing.specs.Writes.{with_block_row, with_record, with_draft}
 
 module _ {A : Type 0} (s : Setup) (K : Kind A) where
@@ -31,6 +33,16 @@ module _ {A : Type 0} (s : Setup) (K : Kind A) where
       let u = vote s K t i (r + 1) in
       leave_by s K t i r (lowest_notarised s t i (r + 1)) (leave_by s K u i r (lowest_notarised s u i (r + 1)) u)
 
-  -- seat i has reacted, if it votes in one of the rounds
+  -- seat i, in this phase, has reacted: only one that votes in one of the R rounds does
+  abbrev pub reacted_as : Tables A → ℕ → Phase → Tables A
+  reacted_as t i Waiting = t
+  reacted_as t i Voting = cond (nat_le (seat_at t i).round s.rounds) (react_in s K t i ((seat_at t i).round - 1)) t
+  reacted_as t i Resting = t
+
   abbrev pub reacted : Tables A → ℕ → Tables A
-  reacted t i = react_as s K t i (seat_at t i).phase
+  reacted t i = reacted_as t i (seat_at t i).phase
+
+  -- Seat i reacts, if it votes in one of the R rounds. The rules leave out this limit: on tables that fit, a seat past the
+  -- last round holds no block of its round, so that its reaction changes nothing.
+  unfoldable pub reacts : Tables A → ℕ → Tables A
+  reacts t i = reacted t i

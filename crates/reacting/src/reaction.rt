@@ -1,10 +1,11 @@
 //! What a seat does when something new has reached it.
-ghost use Rattle.std.specs.Prelude.{◌≡◌, ◌<◌, ◌≤◌};
+ghost use Rattle.std.specs.Prelude.{◌≡◌, ◌*◌, ◌<◌, ◌≤◌, length};
 ghost use Rattle.rules.specs.declared.rows.Phase.TheVariants.{Voting};
+ghost use Rattle.rules.specs.Setup.{block_rows};
 ghost use Rattle.rules.specs.Tables.{seat_at};
 ghost use Rattle.rules.specs.Seat.{react_in, react as react_of};
 ghost use Rattle.tables.specs.View.{view, rows_of, setup_of, SameMemory};
-ghost use Rattle.reacting.specs.Parts.{reacted_in, reacted};
+ghost use Rattle.reacting.specs.Parts.{reacted_in, reacted, reacts};
 
 use crate::departure::leave;
 use crate::votes::vote;
@@ -58,9 +59,11 @@ fn react_in_rounds<R: Record>(terms: Terms, t: &mut Tables<R>, seat: u8)
     }
 }
 
-/// A seat of the bench reacts, if it votes in one of the rounds. For any other number nothing happens.
+/// A seat of the bench reacts, if it votes in one of the rounds. For any other number nothing happens. On tables that fit
+/// this is the reaction of the rules, which do not ask for the round.
 pub fn react<R: Record>(terms: Terms, t: &mut Tables<R>, seat: u8)
-    ensures is { seat < terms.n → view terms t.new ≡ react_of (setup_of terms t.old) R.Record.kind (view terms t.old) seat }
+    ensures is { seat < terms.n → view terms t.new ≡ reacts (setup_of terms t.old) R.Record.kind (view terms t.old) seat }
+    ensures by_rules { seat < terms.n → length t.old.received.now ≤ block_rows (setup_of terms t.old) * terms.n → view terms t.new ≡ react_of (setup_of terms t.old) R.Record.kind (view terms t.old) seat }
     ensures no_seat { terms.n ≤ seat → view terms t.new ≡ view terms t.old }
     ensures same { SameMemory t.new t.old }
 {
