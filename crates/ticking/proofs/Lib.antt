@@ -1,2 +1,3 @@
 pub mod HeadsRead
 pub mod Turns
+pub mod Woken

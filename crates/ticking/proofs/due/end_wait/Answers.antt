@@ -1,7 +1,9 @@
 use Rattle.std.proofs.Common.{rules}
-use Rattle.rules.specs.Seat.{end_wait}
+use Rattle.tables.specs.View.{view, setup_of}
+use Rattle.ticking.proofs.Woken.{woken_reacts}
 use Rattle.ticking.proofs.due.end_wait.Goals as goal
 
 pub returns : goal.returns
-unfolding end_wait
-returns g c = search rules
+returns g c =
+    let e = woken_reacts (setup_of c.args.terms c.args.t.now) g.R.Record.kind (view c.args.terms c.args.t.now) c.args.seat in
+    search rules
