@@ -1,17 +1,22 @@
 -- The checks of a call and its work make the call.
-use Rattle.std.proofs.Common.{◌≡◌, ℕ, suc, ◌-◌, ◌^◌, ◌≤◌, Bool, true, false, cond, eqb, ltb, leb, Some, Ok, Err, refl, ap, ◌∙◌}
+use Rattle.std.proofs.Common.{◌≡◌, ℕ, zero, suc, ◌+◌, ◌-◌, ◌*◌, ◌^◌, ◌≤◌, Bool, true, false, cond, eqb, ltb, leb, List, length, get_or, set, length-set, Some, Ok, Err, refl, ap, ◌∙◌, arith}
+use Rattle.std.proofs.lemmas.Bool.Decides.{nat_tests}
 use lib.Count.{ones}
 use Rattle.numbers.specs.Numbering.{number_of}
 use Rattle.records.specs.Kind.{Kind}
 use Rattle.rules.specs.declared.fault.BenchFault.{BenchFault}
 use Rattle.rules.specs.declared.fault.BenchFault.TheVariants.{NoSuchSeat, SeatIsByzantine, SeatIsHonest, RoundOutOfRange, EditionOutOfRange, TableLength, NoSuchBlock, NeverSent, NothingNew, WrongParent}
-use Rattle.rules.specs.Setup.{Setup, honest, block_round}
-use Rattle.rules.specs.Tables.{Tables, block_at, received_at, vote_at, certificate_at, fits}
-use Rattle.rules.specs.Holding.{has_vote, has_certificate, signers}
+use Rattle.rules.specs.declared.rows.BlockRow.{BlockRow}
+use Rattle.rules.specs.declared.rows.ReceivedRow.{ReceivedRow}
+use Rattle.rules.specs.Setup.{Setup, honest, block_round, block_rows}
+use Rattle.rules.specs.Tables.{Tables, no_block, nothing_received, block_at, received_at, vote_at, certificate_at, fits}
+use Rattle.rules.specs.Holding.{take_in, receive_row, hold_row, takes_in, receives, has_vote, has_certificate, signers}
+use Rattle.rules.specs.Seat.{react}
 use Rattle.rules.specs.Overdue.{certificate_sent}
 use Rattle.rules.specs.Calls.{Outcome, done, refused, offer, deliver_block, deliver_vote, deliver_certificate, plant, sign}
 use Rattle.writing.specs.Writes.{with_draft}
-use Rattle.checking.specs.Checks.{Answer, and_then, honest_check, block_check, vote_check, certificate_check, plant_check, sign_check}
+use Rattle.reacting.proofs.PastTheRounds.{on_fitting}
+use Rattle.checking.specs.Checks.{Answer, and_then, seat_check, honest_check, block_check, vote_check, certificate_check, plant_check, sign_check}
 use Rattle.acting.specs.Effects.{Settles, block_taken, message_taken, planted, signed}
 
 -- the outcome of a call with this answer
@@ -25,6 +30,48 @@ settles_is (Err f) new old o e = e
 
 settled : {A : Type 0} (r q : Answer) (new old : Tables A) (o : Outcome A) → r ≡ q → outcome_by q new old ≡ o → Settles r new old o
 settled r q new old o e h = settles_is r new old o (ap (λ (x : Answer). outcome_by x new old) e ∙ h)
+
+-- .. where the new tables are those of the rules if the answer accepts
+same_if_ok : {A : Type 0} (q : Answer) (x y old : Tables A) → (q ≡ Ok tt → x ≡ y) → outcome_by q x old ≡ outcome_by q y old
+same_if_ok (Ok u) x y old f = ap (λ (z : Tables _). done z) (f refl)
+same_if_ok (Err e) x y old f = refl
+
+settled_as : {A : Type 0} (r q : Answer) (new rules_new old : Tables A) (o : Outcome A) → r ≡ q → (q ≡ Ok tt → new ≡ rules_new)
+    → outcome_by q rules_new old ≡ o → Settles r new old o
+settled_as r q new rules_new old o e f h = settled r q new old o e (same_if_ok q new rules_new old f ∙ h)
+
+first_ok : (p q : Answer) → and_then p q ≡ Ok tt → p ≡ Ok tt
+first_ok (Ok u) q e = refl
+first_ok (Err f) q e = e
+
+second_ok : (p q : Answer) → and_then p q ≡ Ok tt → q ≡ Ok tt
+second_ok (Ok u) q e = e
+second_ok (Err f) q e = absurd (cc)
+
+test_ok : (b : Bool) (p : Answer) (f : BenchFault) → cond b p (Err f) ≡ Ok tt → p ≡ Ok tt
+test_ok true p f e = e
+test_ok false p f e = absurd (cc)
+
+test_passed : (b : Bool) (f : BenchFault) → ◌≡◌ {A = Answer} (cond b (Ok tt) (Err f)) (Ok tt) → b ≡ true
+test_passed true f e = refl
+test_passed false f e = absurd (cc)
+
+-- taking blocks in leaves the rows as many
+take_in_long : (n m : ℕ) (bs : List BlockRow) (h : List ReceivedRow) (j b : ℕ) → length (take_in n m bs h j b) ≡ length h
+unfolding take_in
+take_in_long n zero bs h j b = refl
+take_in_long n (suc m) bs h j b =
+    let p = (get_or bs b no_block).parent in
+    let u = take_in n m bs h j p in
+    let y = receive_row (get_or bs b no_block).carried (get_or u (p * n + j) nothing_received) in
+    let x = set u (p * n + j) y in
+    let z = hold_row (get_or x (b * n + j) nothing_received) in
+    let l : length (set x (b * n + j) z) ≡ length h = length-set x (b * n + j) z ∙ length-set u (p * n + j) y ∙ take_in_long n m bs h j p in
+    either_long (get_or h (b * n + j) nothing_received).held (set x (b * n + j) z) l
+  where
+    either_long : (q : Bool) (v : List ReceivedRow) → length v ≡ length h → length (cond q h v) ≡ length h
+    either_long true v e = refl
+    either_long false v e = e
 
 -- the tests that every call on an honest seat begins with: there is such a seat, it is honest, the tables fit
 abbrev tested : Bool → Bool → Bool → Answer
@@ -95,28 +142,59 @@ sign_tests x t true false true false q = refl
 sign_tests x t true false true true true = refl
 sign_tests x t true false true true false = refl
 
+module _ {A : Type 0} (s : Setup) (t : Tables A) where
+  received_long : fits s t ≡ true → length t.received ≡ block_rows s * s.n
+  unfolding fits
+  received_long e = grind (arith, nat_tests)
+
+  fits_if_ok : (j : ℕ) → honest_check s t j ≡ Ok tt → fits s t ≡ true
+  fits_if_ok j e = test_passed (fits s t) TableLength (test_ok (honest s j) _ SeatIsByzantine (second_ok (cond (ltb j s.n) (Ok tt) (Err NoSuchSeat)) _ e))
+
+module _ {A : Type 0} (s : Setup) (K : Kind A) (t : Tables A) (some : 1 ≤ s.quorum) (j b : ℕ) (ok : honest_check s t j ≡ Ok tt) where
+  -- on tables that fit, the seat reacts as the rules say
+  block_by_rules : block_taken s K t j b ≡ react s K (takes_in s t j b) j
+  block_by_rules =
+      let e = received_long s t (fits_if_ok s t j ok) in
+      let l = take_in_long s.n (block_round s b) t.blocks t.received j b in
+      on_fitting s K (takes_in s t j b) j some (omega arith)
+
+  message_by_rules : (m : ℕ) → message_taken s K t j b m ≡ react s K (receives s (takes_in s t j b) j b m) j
+  message_by_rules m =
+      let e = received_long s t (fits_if_ok s t j ok) in
+      let l = take_in_long s.n (block_round s b) t.blocks t.received j b in
+      let k = length-set (takes_in s t j b).received (b * s.n + j) (receive_row m (received_at s (takes_in s t j b) j b)) in
+      on_fitting s K (receives s (takes_in s t j b) j b m) j some (omega arith)
+
 module _ {A : Type 0} (s : Setup) (K : Kind A) (t : Tables A) where
   pub offer_settled : (r : Answer) (i : ℕ) (d : A) → r ≡ honest_check s t i → Settles r (with_draft t i (Some d)) t (offer s K i d t)
   unfolding offer
   offer_settled r i d e = settled r (honest_check s t i) _ t _ e (offer_tests (with_draft t i (Some d)) t (ltb i s.n) (honest s i) (fits s t))
 
-  pub block_settled : (r : Answer) (j b : ℕ) → r ≡ block_check s t j b → Settles r (block_taken s K t j b) t (deliver_block s K j b t)
+  pub block_settled : 1 ≤ s.quorum → (r : Answer) (j b : ℕ) → r ≡ block_check s t j b → Settles r (block_taken s K t j b) t (deliver_block s K j b t)
   unfolding deliver_block
-  block_settled r j b e = settled r (block_check s t j b) _ t _ e
-      (block_tests (block_taken s K t j b) t (ltb j s.n) (honest s j) (fits s t) (block_at t b).made (received_at s t j b).held)
+  block_settled some r j b e =
+      let new = react s K (takes_in s t j b) j in
+      settled_as r (block_check s t j b) (block_taken s K t j b) new t _ e
+      (λ ok. block_by_rules s K t some j b (first_ok (honest_check s t j) _ ok))
+      (block_tests new t (ltb j s.n) (honest s j) (fits s t) (block_at t b).made (received_at s t j b).held)
 
-  pub vote_settled : (r : Answer) (i j b : ℕ) → r ≡ vote_check s t i j b → Settles r (message_taken s K t j b (2 ^ i)) t (deliver_vote s K i j b t)
+  pub vote_settled : 1 ≤ s.quorum → (r : Answer) (i j b : ℕ) → r ≡ vote_check s t i j b → Settles r (message_taken s K t j b (2 ^ i)) t (deliver_vote s K i j b t)
   unfolding deliver_vote
-  vote_settled r i j b e = settled r (vote_check s t i j b) _ t _ e
-      (vote_tests (message_taken s K t j b (2 ^ i)) t (ltb i s.n) (ltb j s.n) (honest s j) (fits s t) (block_at t b).made (vote_at s t i b).sent (has_vote s t i b j))
+  vote_settled some r i j b e =
+      let new = react s K (receives s (takes_in s t j b) j b (2 ^ i)) j in
+      settled_as r (vote_check s t i j b) (message_taken s K t j b (2 ^ i)) new t _ e
+      (λ ok. message_by_rules s K t some j b (first_ok (honest_check s t j) _ (second_ok (seat_check s.n i) _ ok)) (2 ^ i))
+      (vote_tests new t (ltb i s.n) (ltb j s.n) (honest s j) (fits s t) (block_at t b).made (vote_at s t i b).sent (has_vote s t i b j))
 
-  pub certificate_settled : (r : Answer) (i j k : ℕ) → r ≡ certificate_check s t i j k →
+  pub certificate_settled : 1 ≤ s.quorum → (r : Answer) (i j k : ℕ) → r ≡ certificate_check s t i j k →
       Settles r (message_taken s K t j (certificate_at s t i (suc (k - 1))).block (certificate_at s t i (suc (k - 1))).signers) t (deliver_certificate s K i j k t)
   unfolding deliver_certificate
-  certificate_settled r i j k e =
+  certificate_settled some r i j k e =
       let c = certificate_at s t i (suc (k - 1)) in
-      settled r (certificate_check s t i j k) _ t _ e
-      (certificate_tests (message_taken s K t j c.block c.signers) t (ltb i s.n) (ltb j s.n) (honest s j) (fits s t) (cond (ltb 0 k) (leb k s.rounds) false)
+      let new = react s K (receives s (takes_in s t j c.block) j c.block c.signers) j in
+      settled_as r (certificate_check s t i j k) (message_taken s K t j c.block c.signers) new t _ e
+      (λ ok. message_by_rules s K t some j c.block (first_ok (honest_check s t j) _ (second_ok (seat_check s.n i) _ ok)) c.signers)
+      (certificate_tests new t (ltb i s.n) (ltb j s.n) (honest s j) (fits s t) (cond (ltb 0 k) (leb k s.rounds) false)
       (certificate_sent s t i (k - 1)) (has_certificate s t c.block c.signers j))
 
   pub plant_settled : (r : Answer) (i k e p : ℕ) (x : A) → r ≡ plant_check s t i k e p →
