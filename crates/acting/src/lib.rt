@@ -1,5 +1,6 @@
 //! The calls of a bench on one seat: offers, deliveries, and what Byzantine seats do.
 #![tactic(auto)]
+
 mod admission;
 pub mod calls;
 mod effects;

@@ -1,5 +1,5 @@
 -- An accepted opening begins a run.
-use Rattle.std.proofs.Common.{◌≡◌, ℕ, IfOk, Ok, Err, Result, sym, refl, ap, ◌∙◌, subst, MatchResult}
+use Rattle.std.proofs.Common.{◌≡◌, ℕ, IfOk, Ok, Err, Result, sym, ap, ◌∙◌, subst, MatchResult}
 use Rattle.numbers.specs.Quorum.{majority_of}
 use Rattle.orders.specs.Ranking.{Ranking, Lawful}
 use Rattle.records.specs.Kind.{Kind, IdleFollows}

@@ -1,6 +1,5 @@
 -- A listed chain has the final blocks of its seat, that of round k at place k.
-use Rattle.std.proofs.Common.{◌≡◌, ℕ, zero, suc, ◌+◌, ◌-◌, ◌<◌, ◌≤◌, true, T, ◌⊎◌, List, [], ◌∷◌, ◌++◌, length, get_or, Ok, sym, refl, ap, ◌∙◌, subst, ⊎_elim, arith}
-use lib.Count.{ones}
+use Rattle.std.proofs.Common.{◌≡◌, ℕ, zero, suc, ◌+◌, ◌-◌, ◌<◌, ◌≤◌, T, List, [], ◌∷◌, length, get_or, Ok, sym, refl, ap, ◌∙◌, subst, ⊎_elim, arith}
 use Rattle.std.proofs.lemmas.List.{length-append, get_or_append_left, get_or-append_right}
 use Rattle.std.proofs.lemmas.Bool.{cases_lt}
 use Rattle.numbers.specs.Quorum.{majority_of}
@@ -10,11 +9,11 @@ use Rattle.roster.specs.declared.roster.Roster.{Roster}
 use Rattle.rules.specs.declared.rows.BlockRow.{BlockRow}
 use Rattle.rules.specs.Chains.{ancestor}
 use Rattle.orders.specs.Rows.{order_rows}
-use Rattle.rules.specs.Setup.{Bench, Setup, setup_with, block_round, honest}
+use Rattle.rules.specs.Setup.{Bench, Setup, setup_with, block_round}
 use Rattle.rules.specs.Tables.{Tables, no_block, setup_at, block_at, seat_at}
 use Rattle.rules.specs.Opening.{bench_of, open_answer, opened}
 use Rattle.rules.specs.Runs.{Call, after}
-use Rattle.laws.specs.Laws.{Honest, Final, round}
+use Rattle.laws.specs.Laws.{Honest, round}
 use Rattle.laws.proofs.Tests.{yes_T}
 use Rattle.laws.proofs.Heads.{head_made}
 use Rattle.laws.proofs.BenchView.{Proper, terms_of, view}
@@ -25,7 +24,7 @@ use Rattle.laws.proofs.AcceptedOpening.{accepted, proper}
 use Rattle.laws.proofs.EveryRun.{opened_reached, after_reached}
 use Rattle.reading.specs.Reading.{chain_of, final_chain}
 use Rattle.reading.specs.Listed.{ListsFinal}
-use Rattle.bench.specs.Runs.{RunTo, ShowsFinalBlocks}
+use Rattle.bench.specs.Runs.{ShowsFinalBlocks}
 
 -- a chain, place by place
 module _ (bs : List BlockRow) where

@@ -1,5 +1,5 @@
 -- Every call extends the run behind its bench, and the laws hold after it.
-use Rattle.std.proofs.Common.{◌≡◌, ℕ, List, [], ◌∷◌, ◌++◌, Ok, Result, sym, refl, ap, ◌∙◌, subst}
+use Rattle.std.proofs.Common.{◌≡◌, List, [], ◌∷◌, ◌++◌, Ok, Result, sym, refl, ap, ◌∙◌, subst}
 use Rattle.numbers.specs.Quorum.{majority_of}
 use Rattle.orders.specs.Ranking.{Ranking, Lawful}
 use Rattle.records.specs.Kind.{Kind, IdleFollows}
@@ -12,7 +12,7 @@ use Rattle.rules.specs.Opening.{bench_of, open_answer, opened}
 use Rattle.rules.specs.Runs.{Call, call, after}
 use Rattle.laws.specs.Laws.{Laws, LawsAfter}
 use Rattle.laws.proofs.EveryRun.{no_majority_run_splits_the_record}
-use Rattle.bench.specs.Runs.{RunTo, Extends, LawsHoldAfter, RunBegins}
+use Rattle.bench.specs.Runs.{RunTo, LawsHoldAfter, RunBegins}
 
 module _ {A : Type 0} (K : Kind A) (b : Bench) where
   -- one list of calls after another

@@ -1,5 +1,5 @@
 -- What an opening answers.
-use Rattle.std.specs.Prelude.{◌≡◌, Ok, Err, Result}
+use Rattle.std.specs.Prelude.{Ok, Err, Result}
 use Rattle.rules.specs.declared.fault.BenchFault.{BenchFault}
 use Rattle.bench.specs.declared.live.Bench.{Bench}
 use Rattle.bench.specs.declared.unopened.Unopened.{Unopened}

@@ -3,6 +3,7 @@
 //! A roster is opened into a live bench, which takes offers, ticks, deliveries, plantings and signings. Closing uses it up and
 //! gives a closed bench, of which seats' standings and final chains can be read and nothing else.
 #![tactic(auto)]
+
 pub mod calls;
 pub mod closed;
 pub mod live;

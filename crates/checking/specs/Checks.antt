@@ -1,5 +1,5 @@
 -- The refusals of each call, in the order of their numbers.
-use Rattle.std.specs.Prelude.{ℕ, suc, ◌-◌, Bool, true, false, cond, Ok, Err, Result, ◌==◌, count_ones, nat_le, nat_lt}
+use Rattle.std.specs.Prelude.{ℕ, suc, ◌-◌, true, false, cond, Ok, Err, Result, ◌==◌, count_ones, nat_le, nat_lt}
 use Rattle.numbers.specs.Numbering.{number_of}
 use Rattle.roster.specs.Marks.{is_honest}
 use Rattle.rules.specs.declared.fault.BenchFault.{BenchFault}

@@ -1,13 +1,12 @@
 -- The stages of filling the tables, and that they end in the opened tables.
-use Rattle.std.proofs.Common.{◌≡◌, ℕ, zero, suc, ◌+◌, ◌*◌, ◌<◌, Bool, true, false, cond, eqb, List, [], ◌∷◌, ◌++◌, length, get_or, take, set, replicate, sym, refl, ap, ◌∙◌, add-one, one-add, arith, eqb-true}
+use Rattle.std.proofs.Common.{◌≡◌, ℕ, suc, ◌+◌, ◌*◌, ◌<◌, Bool, true, false, cond, eqb, List, [], ◌∷◌, ◌++◌, length, take, set, replicate, sym, refl, ap, ◌∙◌, add-one, one-add, arith, eqb-true}
 use Rattle.std.proofs.lemmas.List.{take_more_set, take_all, replicate_more}
 use Rattle.orders.specs.Ranking.{Ranking}
 use Rattle.orders.specs.Rows.{order_rows}
 use Rattle.records.specs.Kind.{Kind}
 use Rattle.rules.specs.Loops.{writes}
-use Rattle.rules.specs.Setup.{Bench, Setup, setup_with, honest, own_block, block_rows}
-use Rattle.rules.specs.Tables.{Tables, setup_at, fits, no_block, nothing_received}
-use Rattle.rules.specs.Holding.{hold_row}
+use Rattle.rules.specs.Setup.{Bench, Setup, setup_with, honest, block_rows}
+use Rattle.rules.specs.Tables.{Tables, setup_at, fits, no_block}
 use Rattle.rules.specs.Opening.{first_block, opened_tables, opened}
 use Rattle.writing.specs.Writes.{holds, with_block_row}
 use Rattle.opening.specs.Stages.{with_orders, without_blocks, seats_entered, first_held, first_proposal, first_proposals}

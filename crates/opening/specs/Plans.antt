@@ -1,5 +1,5 @@
 -- The bench that a roster and a plan make.
-use Rattle.std.specs.Prelude.{ℕ, Ok, Err, Result}
+use Rattle.std.specs.Prelude.{Ok, Err, Result}
 use Rattle.numbers.specs.Quorum.{majority_of}
 use Rattle.roster.specs.declared.roster.Roster.{Roster}
 use Rattle.rules.specs.declared.fault.BenchFault.{BenchFault}

@@ -1,5 +1,5 @@
 -- The tables of a new bench, stage by stage.
-use Rattle.std.specs.Prelude.{◌≡◌, ℕ, ◌+◌, ◌*◌, Bool, true, cond, List, length, replicate, None}
+use Rattle.std.specs.Prelude.{◌≡◌, ℕ, ◌+◌, ◌*◌, true, cond, List, length, replicate, None}
 use Rattle.records.specs.Kind.{Kind}
 use Rattle.rules.specs.declared.rows.Phase.TheVariants.{Waiting}
 use Rattle.rules.specs.Loops.{writes}

@@ -1,5 +1,6 @@
 //! Opening a bench: whether it can be opened, and the tables of a new bench.
 #![tactic(auto)]
+
 pub mod begin;
 mod check;
 mod fills;

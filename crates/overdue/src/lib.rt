@@ -1,5 +1,6 @@
 //! The search for a message that would be overdue at the next tick.
 #![tactic(auto)]
+
 ghost use Rattle.std.specs.Prelude.{◌≡◌};
 ghost use Rattle.rules.specs.Overdue.{overdue};
 ghost use Rattle.tables.specs.View.{view, setup_of};

@@ -6,7 +6,7 @@ use Rattle.rules.specs.Tables.{Tables, received_at}
 use Rattle.rules.specs.Holding.{lowest_notarised}
 use Rattle.rules.specs.ParentChoice.{parent_choice}
 use Rattle.rules.specs.Seat.{propose, moves_on, vote, leave, leave_by, react_in}
-use Rattle.reacting.specs.Parts.{proposal_written, proposed, moved_on, reacted_in, reacted, reacts}
+use Rattle.reacting.specs.Parts.{proposal_written, moved_on, reacted_in, reacted, reacts}
 
 module _ {A : Type 0} (s : Setup) (K : Kind A) (t : Tables A) (i : ℕ) where
   pub proposal_is : (r p : ℕ) → proposal_written s K t i r p ≡ propose s K t i r p

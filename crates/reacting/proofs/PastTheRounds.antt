@@ -50,9 +50,9 @@ module _ {A : Type 0} (s : Setup) (K : Kind A) (t : Tables A) (i : ℕ) where
   past_reaction some fit r past =
       let far : block_rows s ≤ round_start s (suc r) = past_rows s.n s.editions s.rounds r past in
       let none : lowest_notarised s t i (suc r) ≡ None =
-          first_none (holds_notarisation s t i) (round_start s (suc r)) (round_width s) (λ x h. not_notarised some x (blank fit x (omega arith))) in
+      first_none (holds_notarisation s t i) (round_start s (suc r)) (round_width s) (λ x h. not_notarised some x (blank fit x (omega arith))) in
       let unheld : first_from (holds_valid s K t i) (round_start s (suc r)) (round_width s) ≡ None =
-          first_none (holds_valid s K t i) (round_start s (suc r)) (round_width s) (λ x h. not_held x (blank fit x (omega arith))) in
+      first_none (holds_valid s K t i) (round_start s (suc r)) (round_width s) (λ x h. not_held x (blank fit x (omega arith))) in
       let still : vote s K t i (suc r) ≡ t = ap (vote_from s K t i (suc r)) unheld in
       ap (λ (u : Tables A). leave_by s K t i r (lowest_notarised s t i (suc r)) (leave_by s K u i r (lowest_notarised s u i (suc r)) u)) still
       ∙ ap (λ (o : Option ℕ). leave_by s K t i r o (leave_by s K t i r o t)) none
@@ -78,6 +78,7 @@ module _ {A : Type 0} (s : Setup) (K : Kind A) (t : Tables A) (i : ℕ) where
       by false e =
           let more : s.rounds < (seat_at t i).round = leb-false (seat_at t i).round s.rounds e in
           sym (past_reaction some fit ((seat_at t i).round - 1) (omega arith))
+
       go : (x : Phase) → reacted_as s K t i x ≡ react_as s K t i x
       go Waiting = refl
       go Voting = by (leb (seat_at t i).round s.rounds) refl

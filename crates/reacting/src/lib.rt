@@ -1,5 +1,6 @@
 //! How a seat reacts to what it has received: its votes, its proposal, and how it leaves a round.
 #![tactic(auto)]
+
 pub mod choice;
 mod departure;
 pub mod members;

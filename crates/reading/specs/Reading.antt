@@ -1,5 +1,5 @@
 -- What can be read of a seat: where it stands, and its final chain.
-use Rattle.std.specs.Prelude.{ℕ, zero, suc, cond, List, [], ◌∷◌, ◌++◌, length, Ok, Err, Result, nat_lt, slice_index_or}
+use Rattle.std.specs.Prelude.{ℕ, zero, suc, cond, List, [], ◌∷◌, ◌++◌, Ok, Err, Result, nat_lt, slice_index_or}
 use Rattle.rules.specs.declared.fault.BenchFault.{BenchFault}
 use Rattle.rules.specs.declared.fault.BenchFault.TheVariants.{ShortBuffer}
 use Rattle.rules.specs.declared.rows.BlockRow.{BlockRow}

@@ -1,5 +1,6 @@
 //! Reading where a seat stands, and its final chain.
 #![tactic(auto)]
+
 ghost use Rattle.std.specs.Prelude.{◌≡◌, ◌<◌, ◌≤◌, ◌++◌, length, drop};
 ghost use Rattle.tables.specs.View.{view, setup_of};
 ghost use Rattle.reading.specs.Reading.{status_answer, chain_answer, chain_length, final_chain, chain_of, buffer_by};

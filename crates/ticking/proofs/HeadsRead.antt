@@ -1,5 +1,5 @@
 -- The head choice over what has been read.
-use Rattle.std.proofs.Common.{◌≡◌, ℕ, ◌-◌, Bool, true, false, cond, not, eqb, leb, Some, None, Option, sym, refl, ap, ◌∙◌}
+use Rattle.std.proofs.Common.{◌≡◌, ℕ, ◌-◌, Bool, true, false, cond, not, eqb, leb, Some, sym, ap, ◌∙◌}
 use Rattle.records.specs.Kind.{Kind}
 use Rattle.rules.specs.declared.rows.SeatRow.{SeatRow}
 use Rattle.rules.specs.Loops.{first_from, is_some}

@@ -1,5 +1,5 @@
 -- A seat whose wait has ended votes only in one of the rounds, so that it reacts as the rules say.
-use Rattle.std.proofs.Common.{◌≡◌, ℕ, ◌<◌, ◌≤◌, ◌⊎◌, ⊎_elim, Bool, true, false, cond, leb, length, get_or, set, length-set, refl, sym, subst, arith}
+use Rattle.std.proofs.Common.{◌≡◌, ℕ, ◌<◌, ◌≤◌, ⊎_elim, Bool, true, false, cond, leb, length, set, length-set, refl, sym, subst, arith}
 use Rattle.std.proofs.lemmas.Bool.{cases_lt, leb-true}
 use Rattle.std.proofs.lemmas.List.{get_or-set_same}
 use Rattle.records.specs.Kind.{Kind}
@@ -32,9 +32,9 @@ module _ {A : Type 0} (s : Setup) (K : Kind A) (t : Tables A) (i : ℕ) where
   woken_within : Within (seat_at (wakes s K t i) i)
   woken_within = ⊎_elim
       (λ (h : i < length t.seats). subst Within (sym (get_or-set_same t.seats i row no_seat h))
-          (votes_within (seat_at t i).round s.rounds (leb (seat_at t i).round s.rounds) refl))
+      (votes_within (seat_at t i).round s.rounds (leb (seat_at t i).round s.rounds) refl))
       (λ (h : length t.seats ≤ i). subst Within (sym (past_end (set t.seats i row) i no_seat (omega (arith, length-set t.seats i row))))
-          (λ (e : ◌≡◌ {A = Phase} Resting Voting). absurd (cc)))
+      (λ (e : ◌≡◌ {A = Phase} Resting Voting). absurd (cc)))
       (cases_lt i (length t.seats))
 
   pub woken_reacts : reacts s K (wakes s K t i) i ≡ end_wait s K t i

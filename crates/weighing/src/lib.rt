@@ -1,5 +1,6 @@
 //! What chains weigh, and which block a proposal stands on.
 #![tactic(auto)]
+
 ghost use Rattle.std.specs.Prelude.{◌≡◌};
 ghost use Rattle.rules.specs.Weights.{chain_weight, weight_of};
 ghost use Rattle.rules.specs.ParentChoice.{parent_choice};

@@ -1,4 +1,4 @@
-use Rattle.std.proofs.Common.{◌≡◌, sym, ◌∙◌, rules}
+use Rattle.std.proofs.Common.{rules}
 use Rattle.reading.proofs.Chain.{chain_step, chain_end}
 use Rattle.reading.proofs.write_chain.Goals as goal
 

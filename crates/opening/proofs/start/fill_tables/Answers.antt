@@ -1,4 +1,4 @@
-use Rattle.std.proofs.Common.{refl, arith, rules}
+use Rattle.std.proofs.Common.{refl, rules}
 use Rattle.tables.specs.View.{rows_of}
 use Rattle.terms.specs.Numbers.{bench_of_terms}
 use Rattle.opening.proofs.Filling.{opened_by, few_rows}

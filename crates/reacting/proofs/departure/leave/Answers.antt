@@ -1,4 +1,4 @@
-use Rattle.std.proofs.Common.{◌∙◌, rules}
+use Rattle.std.proofs.Common.{◌∙◌}
 use Rattle.tables.specs.View.{view, setup_of}
 use Rattle.reacting.proofs.PartsJoined.{moved_is}
 use Rattle.reacting.proofs.departure.leave.Goals as goal

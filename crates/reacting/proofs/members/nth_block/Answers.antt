@@ -1,4 +1,4 @@
-use Rattle.std.proofs.Common.{◌≡◌, ℕ, ◌+◌, ◌-◌, ◌*◌, ◌<◌, ◌≤◌, [], ap, ◌∙◌, rules}
+use Rattle.std.proofs.Common.{◌≡◌, ℕ, ◌+◌, ◌-◌, ◌*◌, [], ap, ◌∙◌, rules}
 use Rattle.numbers.specs.Numbering.{round_of}
 use Rattle.rules.specs.Setup.{setup_with}
 use Rattle.terms.specs.Numbers.{bench_of_terms}

@@ -1,4 +1,4 @@
-use Rattle.std.proofs.Common.{◌≡◌, ◌-◌, [], rules}
+use Rattle.std.proofs.Common.{◌-◌, rules}
 use Rattle.rules.specs.Setup.{setup_with, block_round, block_owner}
 use Rattle.terms.specs.Numbers.{bench_of_terms}
 use Rattle.tables.proofs.PastTheEnd.{rank_row_is}

@@ -1,4 +1,4 @@
-use Rattle.std.proofs.Common.{◌∙◌, arith, rules}
+use Rattle.std.proofs.Common.{◌∙◌, arith}
 use Rattle.tables.specs.View.{view, setup_of}
 use Rattle.reacting.proofs.PartsJoined.{reacted_is}
 use Rattle.reacting.proofs.PastTheRounds.{on_fitting}

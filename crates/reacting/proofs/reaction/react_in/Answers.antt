@@ -1,4 +1,4 @@
-use Rattle.std.proofs.Common.{◌∙◌, rules}
+use Rattle.std.proofs.Common.{◌∙◌}
 use Rattle.tables.specs.View.{view, setup_of}
 use Rattle.reacting.proofs.PartsJoined.{reacted_in_is}
 use Rattle.reacting.proofs.reaction.react_in.Goals as goal
