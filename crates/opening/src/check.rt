@@ -2,7 +2,7 @@
 ghost use Rattle.std.specs.Prelude.{◌≡◌, true, false, cond, if◌then◌else◌, Ok, Err, MatchResult};
 ghost use Rattle.rules.specs.declared.fault.BenchFault.TheVariants.{DelayOutOfRange, RoundOutOfRange, EditionOutOfRange};
 ghost use Rattle.rules.specs.Tables.{fits as fits_of};
-ghost use Rattle.rules.specs.Opening.{within as is_Within, serves as serves_bench, open_answer};
+ghost use Rattle.rules.specs.Opening.{within as is_within, serves as serves_bench, open_answer};
 ghost use Rattle.tables.specs.View.{rows_of, setup_of};
 ghost use Rattle.terms.specs.Numbers.{bench_of_terms};
 ghost use Rattle.opening.specs.Plans.{planned};
@@ -20,7 +20,7 @@ use terms::terms::Terms;
 
 // Whether a number is from 1 to a limit.
 fn within(x: u16, limit: u16) -> bool
-    ensures { result ≡ is_Within x limit }
+    ensures { result ≡ is_within x limit }
 {
     0 < x && x <= limit
 }
@@ -35,9 +35,9 @@ fn serves<B: Beacon>(beacon: &B, seats: u8, rounds: u16) -> bool
 // The refusals of an opening that do not look at the tables.
 fn check_plan<B: Beacon>(plan: Plan, seats: u8, beacon: &B) -> Result<(), BenchFault>
     ensures { result ≡
-        (if is_Within plan.delay 1000 then
-        (if (if is_Within plan.rounds 256 then serves_bench (B.ranking beacon.now) (record { n = seats; marks = 0; delay = 0; rounds = plan.rounds; editions = 0; quorum = 0 }) else false) then
-        cond (is_Within plan.editions 8) (Ok tt)
+        (if is_within plan.delay 1000 then
+        (if (if is_within plan.rounds 256 then serves_bench (B.ranking beacon.now) (record { n = seats; marks = 0; delay = 0; rounds = plan.rounds; editions = 0; quorum = 0 }) else false) then
+        cond (is_within plan.editions 8) (Ok tt)
         (Err EditionOutOfRange) else Err RoundOutOfRange) else Err DelayOutOfRange) }
 {
     if !within(plan.delay, MOST_DELAY) {
