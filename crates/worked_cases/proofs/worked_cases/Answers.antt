@@ -5,10 +5,9 @@ use Rattle.shuffle.specs.Shuffle.{shuffled, place}
 use Rattle.orders.specs.Rows.{numbers}
 use Rattle.worked_cases.proofs.worked_cases.Goals as goal
 
-pub returns : goal.returns
+pub returns-clause-each_holds : goal.returns-clause-each_holds
 unfolding draws numbers shuffled place ones
-returns c = record {
-  count = refl;
-  each_holds = (refl, (refl, (refl, (refl, (refl, (refl, (refl, (refl, (refl, (refl, (refl, tt)))))))))));
-  large_volume = λ p value total. refl;
-}
+returns-clause-each_holds c = (refl, (refl, (refl, (refl, (refl, (refl, (refl, (refl, (refl, (refl, (refl, tt)))))))))))
+
+pub returns-clause-large_volume : goal.returns-clause-large_volume
+returns-clause-large_volume c = λ p value total. refl
