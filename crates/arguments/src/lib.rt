@@ -1,35 +1,60 @@
 //! Numbers from a program's arguments.
 #![tactic(auto)]
 
-ghost use Rattle.std.specs.Prelude.{◌≡◌, ℕ, ◌^◌, ◌<◌, min, Some, decimal};
+ghost use Rattle.std.specs.Prelude.{◌≡◌, ℕ, ◌^◌, ◌<◌, min, Some, decimal, Result};
+ghost use Rattle.std.specs.Result.{result_unwrap_or};
+ghost use Rattle.std.specs.declared.num.TryFromIntError.{TryFromIntError};
 
-// What the library's parser reads.
-fn parsed(word: &str) -> Option<u64>
-    ensures { (n : ℕ) → n < 2 ^ 64 → word.now ≡ decimal n → result ≡ Some n }
-{
-    match word.parse::<u64>() {
-        Ok(x) => Some(x),
-        Err(_) => None,
-    }
+use std::num::TryFromIntError;
+
+/// A type that counts are kept in.
+pub trait Count: TryFrom<u64, Error = TryFromIntError> + Copy {
+    /// The largest count that it holds.
+    const LARGEST: Self;
+
+    ghost LARGEST: { Self };
+
+    // The number that a value is.
+    ghost value: { Self → ℕ };
+
+    // What does not fit comes to the largest.
+    ghost clamps: { (count : ℕ) (r : Result Self TryFromIntError) → Self.TryFrom.try_from_gives count r → value (result_unwrap_or r LARGEST) ≡ min count (value LARGEST) };
+}
+
+impl Count for u8 {
+    ghost use Rattle.std.proofs.Common.{rules};
+
+    const LARGEST: u8 = u8::MAX;
+
+    ghost LARGEST = { 255 };
+
+    ghost value = { λ n. n };
+
+    ghost clamps = { Prim.search rules };
+}
+
+impl Count for u16 {
+    ghost use Rattle.std.proofs.Common.{rules};
+
+    const LARGEST: u16 = u16::MAX;
+
+    ghost LARGEST = { 65535 };
+
+    ghost value = { λ n. n };
+
+    ghost clamps = { Prim.search rules };
 }
 
 /// The number that a word writes in decimal; None where it writes none, or one that 64 bits do not hold.
 pub fn number(word: &str) -> Option<u64>
     ensures { (n : ℕ) → n < 2 ^ 64 → word.now ≡ decimal n → result ≡ Some n }
 {
-    parsed(word)
+    word.parse::<u64>().ok()
 }
 
-/// A count in 8 bits; the largest that they hold where it does not fit.
-pub fn eight_bits(count: u64) -> u8
-    ensures { result ≡ min count 255 }
+/// A count in a smaller type; the largest that it holds where it does not fit.
+pub fn clamped<T: Count>(count: u64) -> T
+    ensures { T.value result ≡ min count (T.value T.LARGEST) }
 {
-    count.min(255) as u8
-}
-
-/// A count in 16 bits; the largest that they hold where it does not fit.
-pub fn sixteen_bits(count: u64) -> u16
-    ensures { result ≡ min count 65535 }
-{
-    count.min(65535) as u16
+    T::try_from(count).unwrap_or(T::LARGEST)
 }

@@ -10,9 +10,14 @@ use Rattle.rules.specs.Tables.{Tables}
 use Rattle.rules.specs.Calls.{Outcome}
 use Rattle.rules.specs.Opening.{bench_of, open_answer, opened}
 use Rattle.rules.specs.Runs.{Call, call, after}
+use Rattle.tables.specs.View.{view}
+use Rattle.tables.specs.declared.lent.Tables as lent_tables
+use Rattle.terms.specs.Numbers.{bench_of_terms}
+use Rattle.terms.specs.declared.terms.Terms.{Terms}
 use Rattle.laws.specs.Laws.{Laws, LawsAfter}
 use Rattle.laws.proofs.EveryRun.{no_majority_run_splits_the_record}
-use Rattle.bench.specs.Runs.{RunTo, LawsHoldAfter, RunBegins}
+use Rattle.acting.specs.Calls.{ByTheRules}
+use Rattle.bench.specs.Runs.{RunTo, LawsHoldAfter, Plays, RunBegins}
 
 module _ {A : Type 0} (K : Kind A) (b : Bench) where
   -- one list of calls after another
@@ -45,6 +50,11 @@ laws_hold_after K idles b t c u is run =
           (sym (after_both K b cs ds o) ∙ ap (λ (x : List _). after b K x o) e ∙ sym led)
           (run_laws K idles b t run cs ds);
     }
+
+pub plays : {A : Type 0} {K : Kind A} → IdleFollows K → {c : Call A} {r : Result (Unit {0}) BenchFault} {before after : Terms} {old new : lent_tables.Tables A}
+    → ByTheRules K c r before after old new → Plays K c r before after old new
+plays {K = K} idles {c = c} {before = before} {after = after} {old = old} {new = new} by =
+    record { rules = by; laws = laws_hold_after K idles (bench_of_terms before) (view before old) c (view after new) by.is }
 
 -- a run that begins
 pub run_begins : {A : Type 0} (K : Kind A) → IdleFollows K → (b : Bench) (ro : Roster) (m : Ranking) (lent t : Tables A) → Lawful m

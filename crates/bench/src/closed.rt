@@ -1,8 +1,9 @@
 //! A closed bench.
-use terms::terms::Terms;
+use crate::live::Bench;
+
+/// The state of a bench that was closed.
+#[derive(Drop)]
+pub struct Closed;
 
 /// A bench that can only be read: no call lengthens its final chains.
-#[derive(Drop)]
-pub struct ClosedBench {
-    pub(crate) terms: Terms,
-}
+pub type ClosedBench = Bench<Closed>;

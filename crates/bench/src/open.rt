@@ -9,33 +9,17 @@ ghost use Rattle.bench.specs.Answers.{open_outcome};
 ghost use Rattle.bench.specs.Runs.{RunBegins};
 
 use crate::closed::ClosedBench;
-use crate::live::Bench;
+use crate::live::{Bench, Live};
 use crate::unopened::Unopened;
 use opening::begin::open_tables;
 use opening::plan::Plan;
 use orders::Beacon;
 use records::Record;
 use roster::roster::Roster;
+use std::marker::PhantomData;
 use tables::lent::Tables;
 
-// The bench of a roster, on tables that the opening fills; or the roster back, and the tables as they were.
-fn begin<R: Record, B: Beacon>(
-    roster: Roster,
-    plan: Plan,
-    beacon: &B,
-    t: &mut Tables<R>,
-) -> Result<Bench, Unopened>
-    ensures is { record { answer = open_outcome result; tables = rows_of t.new } ≡ opening (planned roster plan) (B.ranking beacon.now) R.Record.kind (rows_of t.old) }
-    ensures holds { MatchResult result (λ b. (bench_of_terms b.terms ≡ planned roster plan) × (b.terms.clock ≡ 0)) (λ u. u.roster ≡ roster) }
-    ensures same { SamePlaces t.new t.old }
-{
-    match open_tables(&roster, plan, beacon, t) {
-        Ok(terms) => Ok(Bench { terms }),
-        Err(fault) => Err(Unopened { roster, fault }),
-    }
-}
-
-impl Bench {
+impl Bench<Live> {
     /// Opens a roster into a live bench on the tables lent, which are filled. All honest seats enter round 1 and propose. A
     /// refusal gives the roster back, and leaves the tables as they were.
     pub fn open<R: Record, B: Beacon>(
@@ -45,18 +29,27 @@ impl Bench {
         t: &mut Tables<R>,
     ) -> Result<Bench, Unopened>
         ensures is { record { answer = open_outcome result; tables = rows_of t.new } ≡ opening (planned roster plan) (B.ranking beacon.now) R.Record.kind (rows_of t.old) }
-        ensures holds { MatchResult result (λ b. (bench_of_terms b.terms ≡ planned roster plan) × (b.terms.clock ≡ 0)) (λ u. u.roster ≡ roster) }
+        ensures holds { MatchResult result (λ b. (bench_of_terms b ≡ planned roster plan) × (b.clock ≡ 0)) (λ u. u.roster ≡ roster) }
         ensures same { SamePlaces t.new t.old }
-        ensures laws { IfOk result (λ b. RunBegins R.Record.kind (bench_of_terms b.terms) (B.ranking beacon.now) (view b.terms t.new)) }
+        ensures laws { IfOk result (λ b. RunBegins R.Record.kind (bench_of_terms b) (B.ranking beacon.now) (view b t.new)) }
     {
-        begin(roster, plan, beacon, t)
+        match open_tables(&roster, plan, beacon, t) {
+            Ok(terms) => Ok(Bench {
+                terms,
+                state: PhantomData,
+            }),
+            Err(fault) => Err(Unopened { roster, fault }),
+        }
     }
 
     /// Closes the bench: from now on it can only be read.
     pub fn close(self) -> ClosedBench
-        ensures { result.terms ≡ self.terms }
+        ensures { result ≡ self }
     {
-        let Bench { terms } = self;
-        ClosedBench { terms }
+        let Bench { terms, .. } = self;
+        Bench {
+            terms,
+            state: PhantomData,
+        }
     }
 }

@@ -5,7 +5,7 @@ use Rattle.roster.specs.Marks.{is_honest}
 use Rattle.rules.specs.declared.fault.BenchFault.{BenchFault}
 use Rattle.rules.specs.declared.fault.BenchFault.TheVariants.{NoSuchSeat, SeatIsByzantine, SeatIsHonest, RoundOutOfRange, EditionOutOfRange, TableLength, NoSuchBlock, NeverSent, NothingNew, WrongParent}
 use Rattle.rules.specs.Setup.{Setup, honest, block_round}
-use Rattle.rules.specs.Tables.{Tables, block_at, received_at, vote_at, certificate_at, fits}
+use Rattle.rules.specs.Tables.{Tables, has_signed, block_at, received_at, vote_at, certificate_at, fits}
 use Rattle.rules.specs.Holding.{has_vote, has_certificate, signers}
 use Rattle.rules.specs.Overdue.{certificate_sent}
 
@@ -47,7 +47,7 @@ module _ {A : Type 0} (s : Setup) (t : Tables A) where
   abbrev pub vote_check : ℕ → ℕ → ℕ → Answer
   vote_check i j b = and_then (seat_check s.n i) (and_then (honest_check j) (
       cond (block_at t b).made (
-      cond (vote_at s t i b).sent (
+      cond (has_signed (vote_at s t i b)) (
       cond (has_vote s t i b j) (Err NothingNew) (Ok tt))
       (Err NeverSent)) (Err NoSuchBlock)))
 
@@ -75,5 +75,5 @@ module _ {A : Type 0} (s : Setup) (t : Tables A) where
   abbrev pub sign_check : ℕ → ℕ → Answer
   sign_check i b = and_then (byzantine_check s.n s.marks i) (and_then tables_check (
       cond (cond (nat_lt 0 b) (block_at t b).made false) (
-      cond (vote_at s t i b).sent (Err NothingNew) (Ok tt))
+      cond (has_signed (vote_at s t i b)) (Err NothingNew) (Ok tt))
       (Err NoSuchBlock)))

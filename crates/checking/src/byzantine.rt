@@ -1,7 +1,6 @@
 //! Whether a Byzantine seat can make a block, or sign one.
 ghost use Rattle.std.specs.Prelude.{◌≡◌, ◌<◌, false, [], OnOk};
-ghost use Rattle.numbers.specs.Numbering.{number_of};
-ghost use Rattle.rules.specs.Tables.{vote_at};
+ghost use Rattle.rules.specs.Tables.{has_signed, vote_at};
 ghost use Rattle.tables.specs.View.{view, setup_of};
 ghost use Rattle.checking.specs.Checks.{place_check, parent_check, plant_check, sign_check};
 
@@ -10,18 +9,10 @@ use holding::signatures::signers;
 use records::Record;
 use rules::fault::BenchFault;
 use tables::lent::Tables;
-use tables::reads::{block_row, vote_row};
 use terms::terms::Terms;
 
-/// The number of a seat's block in a round and of an edition.
-pub fn block_number(terms: Terms, seat: u8, round: u16, edition: u8) -> u32
-    ensures { result ≡ number_of terms.n terms.editions round seat edition }
-{
-    1 + (round.saturating_sub(1) as u32 * terms.n as u32 + seat as u32) * terms.editions as u32
-        + edition as u32
-}
-
 /// Byzantine `seat` makes its block of this round and edition, on `parent`.
+// Seat, round and edition are no `BlockId` yet: they are tested one after another, as a call names them.
 pub fn check_plant<R: Record>(
     terms: Terms,
     t: &Tables<R>,
@@ -35,10 +26,10 @@ pub fn check_plant<R: Record>(
     check_byzantine(terms, seat)?;
     check_place(terms, round, edition)?;
     check_tables(terms, t)?;
-    if !block_row(t, parent).made {
+    if !t.block_row(parent).made {
         return Err(BenchFault::NoSuchBlock);
     }
-    if block_row(t, block_number(terms, seat, round, edition)).made {
+    if t.block_row(terms.block_number(seat, round, edition)).made {
         return Err(BenchFault::NothingNew);
     }
     check_parent(terms, t, round, parent)
@@ -48,7 +39,7 @@ pub fn check_plant<R: Record>(
 fn check_place(terms: Terms, round: u16, edition: u8) -> Result<(), BenchFault>
     ensures { result ≡ place_check terms.rounds terms.editions round edition }
 {
-    if round == 0 || round > terms.rounds {
+    if !(1..=terms.rounds).contains(&round) {
         return Err(BenchFault::RoundOutOfRange);
     }
     if edition >= terms.editions {
@@ -84,14 +75,14 @@ pub fn check_sign<R: Record>(
     block: u32,
 ) -> Result<(), BenchFault>
     ensures is { result ≡ sign_check (setup_of terms t.now) (view terms t.now) seat block }
-    ensures unsigned { OnOk result ((seat < terms.n) × ((vote_at (setup_of terms t.now) (view terms t.now) seat block).sent ≡ false)) }
+    ensures unsigned { OnOk result ((seat < terms.n) × (has_signed (vote_at (setup_of terms t.now) (view terms t.now) seat block) ≡ false)) }
 {
     check_byzantine(terms, seat)?;
     check_tables(terms, t)?;
-    if block == 0 || !block_row(t, block).made {
+    if block == 0 || !t.block_row(block).made {
         return Err(BenchFault::NoSuchBlock);
     }
-    if vote_row(terms, t, seat, block).sent {
+    if t.vote_row(terms, seat, block).sent.is_some() {
         return Err(BenchFault::NothingNew);
     }
     Ok(())

@@ -1,15 +1,14 @@
 //! Whether a message can be delivered: it was sent, to an honest seat that does not have all of it.
-ghost use Rattle.std.specs.Prelude.{◌≡◌, ◌-◌, ◌<◌, ◌≤◌, OnOk};
-ghost use Rattle.rules.specs.Overdue.{certificate_sent};
+ghost use Rattle.std.specs.Prelude.{◌≡◌, ◌<◌, OnOk};
 ghost use Rattle.tables.specs.View.{view, setup_of};
 ghost use Rattle.checking.specs.Checks.{block_check, vote_check, certificate_check};
 
 use crate::seats::{check_honest, check_seat};
 use holding::messages::{has_certificate, has_vote};
+use holding::sent::certificate_sent;
 use records::Record;
 use rules::fault::BenchFault;
 use tables::lent::Tables;
-use tables::reads::{block_row, certificate_after, is_held, seat_row, vote_row};
 use terms::terms::Terms;
 
 /// Block `block` to `seat`.
@@ -23,10 +22,10 @@ pub fn check_block<R: Record>(
     ensures seats { OnOk result (seat < terms.n) }
 {
     check_honest(terms, t, seat)?;
-    if !block_row(t, block).made {
+    if !t.block_row(block).made {
         return Err(BenchFault::NoSuchBlock);
     }
-    if is_held(terms, t, seat, block) {
+    if t.is_held(terms, seat, block) {
         return Err(BenchFault::NothingNew);
     }
     Ok(())
@@ -45,10 +44,10 @@ pub fn check_vote<R: Record>(
 {
     check_seat(terms, voter)?;
     check_honest(terms, t, seat)?;
-    if !block_row(t, block).made {
+    if !t.block_row(block).made {
         return Err(BenchFault::NoSuchBlock);
     }
-    if !vote_row(terms, t, voter, block).sent {
+    if t.vote_row(terms, voter, block).sent.is_none() {
         return Err(BenchFault::NeverSent);
     }
     if has_vote(terms, t, voter, block, seat) {
@@ -70,20 +69,12 @@ pub fn check_certificate<R: Record>(
 {
     check_seat(terms, sender)?;
     check_honest(terms, t, seat)?;
-    if round == 0 || round > terms.rounds || !certificate_sent(terms, t, sender, round) {
+    if !(1..=terms.rounds).contains(&round) || !certificate_sent(terms, t, sender, round - 1) {
         return Err(BenchFault::NeverSent);
     }
-    let certificate = certificate_after(terms, t, sender, round - 1);
+    let certificate = t.certificate_after(terms, sender, round - 1);
     if has_certificate(terms, t, certificate.block, certificate.signers, seat) {
         return Err(BenchFault::NothingNew);
     }
     Ok(())
-}
-
-// Whether an honest sender is past the round, so that it has sent the certificate of it.
-fn certificate_sent<R: Record>(terms: Terms, t: &Tables<R>, sender: u8, round: u16) -> bool
-    requires { 1 ≤ round }
-    ensures { result ≡ certificate_sent (setup_of terms t.now) (view terms t.now) sender (round - 1) }
-{
-    terms.is_honest(sender) && round < seat_row(t, sender).round
 }

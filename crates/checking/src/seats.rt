@@ -5,14 +5,12 @@ ghost use Rattle.checking.specs.Checks.{seat_check, tables_check, honest_check, 
 
 use records::Record;
 use rules::fault::BenchFault;
-use tables::lengths::fits;
 use tables::lent::Tables;
 use terms::terms::Terms;
 
 // There has to be such a seat.
 pub(crate) fn check_seat(terms: Terms, seat: u8) -> Result<(), BenchFault>
-    ensures is { result ≡ seat_check terms.n seat }
-    ensures seat { OnOk result (seat < terms.n) }
+    ensures { result ≡ seat_check terms.n seat }
 {
     if seat < terms.n {
         Ok(())
@@ -25,7 +23,7 @@ pub(crate) fn check_seat(terms: Terms, seat: u8) -> Result<(), BenchFault>
 pub(crate) fn check_tables<R: Record>(terms: Terms, t: &Tables<R>) -> Result<(), BenchFault>
     ensures { result ≡ tables_check (setup_of terms t.now) (view terms t.now) }
 {
-    if fits(terms, t) {
+    if t.fits(terms) {
         Ok(())
     } else {
         Err(BenchFault::TableLength)
@@ -33,6 +31,8 @@ pub(crate) fn check_tables<R: Record>(terms: Terms, t: &Tables<R>) -> Result<(),
 }
 
 /// The seat has to be honest, and the tables have to fit.
+// That an accepted seat is one of the bench's stands here, and in the other public checks. A type for such a seat would have to
+// hold the bench's numbers too, since `terms.n` is its limit, and every check would answer one in place of nothing.
 pub fn check_honest<R: Record>(terms: Terms, t: &Tables<R>, seat: u8) -> Result<(), BenchFault>
     ensures is { result ≡ honest_check (setup_of terms t.now) (view terms t.now) seat }
     ensures seat { OnOk result (seat < terms.n) }
@@ -46,13 +46,11 @@ pub fn check_honest<R: Record>(terms: Terms, t: &Tables<R>, seat: u8) -> Result<
 
 // The seat has to be Byzantine.
 pub(crate) fn check_byzantine(terms: Terms, seat: u8) -> Result<(), BenchFault>
-    ensures is { result ≡ byzantine_check terms.n terms.marks seat }
-    ensures seat { OnOk result (seat < terms.n) }
+    ensures { result ≡ byzantine_check terms.n terms.marks seat }
 {
     check_seat(terms, seat)?;
     if terms.is_honest(seat) {
-        Err(BenchFault::SeatIsHonest)
-    } else {
-        Ok(())
+        return Err(BenchFault::SeatIsHonest);
     }
+    Ok(())
 }

@@ -3,13 +3,13 @@
 
 ghost use Rattle.std.specs.Prelude.{◌≡◌, IfOk, vec_len};
 
-use anyhow::anyhow;
-use arguments::{eight_bits, number, sixteen_bits};
-use drawing::report::numbered_line;
+use anyhow::bail;
+use arguments::{clamped, number};
+use drawing::report::print_or_refuse;
 use drawing::seating::seat_all;
 use records::heat::Heat;
 use rules::fault::BenchFault;
-use std::alloc::Global;
+use std::alloc::{AllocError, Global};
 use std::env;
 use timetable::fault::TimetableFault;
 use timetable::text::timetable;
@@ -33,62 +33,44 @@ example: deadlines 4 1 2 6
 ";
 
 // The first seats, this many.
-fn first_seats(heap: Global, count: u8) -> anyhow::Result<Vec<u8>>
+fn first_seats(alloc: Global, count: u8) -> Result<Vec<u8>, AllocError>
     ensures { IfOk result (λ v. vec_len v ≡ count) }
 {
-    let mut seats = Vec::new(heap);
-    for seat in 0..count {
-        seats.push(seat)?;
-    }
-    Ok(seats)
+    (0..count).collect(alloc)
 }
 
 // The timetable that was asked for. The records make no difference: heat stands for every kind.
 fn asked(
-    heap: Global,
+    alloc: Global,
     n: u8,
     byzantine: &[u8],
     delay: u16,
     rounds: u16,
 ) -> Result<String, TimetableFault> {
-    match seat_all(n, byzantine) {
-        Ok(roster) => timetable::<Heat>(heap, &roster, delay, rounds),
-        Err(fault) => Err(TimetableFault::Bench(BenchFault::Roster(fault))),
-    }
-}
-
-fn run(rt: &HostRuntime) -> anyhow::Result<()> {
-    let mut counts = Vec::new(rt.alloc());
-    for word in env::args(rt)?.skip(1) {
-        let Some(count) = number(word.as_str()) else {
-            rt.print(USAGE)?;
-            return Err(anyhow!("arguments are numbers"));
-        };
-        counts.push(count)?;
-    }
-    let [n, byzantine, delay, rounds] = counts.as_slice() else {
-        rt.print(USAGE)?;
-        return Ok(());
-    };
-    let seats = first_seats(rt.alloc(), eight_bits(*byzantine))?;
-    match asked(
-        rt.alloc(),
-        eight_bits(*n),
-        seats.as_slice(),
-        sixteen_bits(*delay),
-        sixteen_bits(*rounds),
-    ) {
-        Ok(text) => {
-            rt.print(text)?;
-            Ok(())
-        }
-        Err(fault) => {
-            rt.print(numbered_line(rt.alloc(), fault.number(), fault.sentence())?)?;
-            Err(anyhow!("there is no timetable"))
-        }
-    }
+    let roster = seat_all(n, byzantine).map_err(BenchFault::from)?;
+    timetable::<Heat>(alloc, &roster, delay, rounds)
 }
 
 fn main(rt: HostRuntime) -> anyhow::Result<()> {
-    run(&rt)
+    let counts: Option<Vec<u64>> = env::args(&rt)?
+        .skip(1)
+        .map(|word| number(word.as_str()))
+        .collect(rt.alloc())?;
+    let Some(counts) = counts else {
+        rt.print(USAGE)?;
+        bail!("arguments are numbers");
+    };
+    let &[n, byzantine, delay, rounds] = counts.as_slice() else {
+        rt.print(USAGE)?;
+        return Ok(());
+    };
+    let seats = first_seats(rt.alloc(), clamped(byzantine))?;
+    let text = asked(
+        rt.alloc(),
+        clamped(n),
+        seats.as_slice(),
+        clamped(delay),
+        clamped(rounds),
+    );
+    print_or_refuse(&rt, rt.alloc(), text, "there is no timetable")
 }

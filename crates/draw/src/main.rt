@@ -3,12 +3,11 @@
 
 mod request;
 
-use anyhow::anyhow;
-use drawing::fault::DrawFault;
-use drawing::report::{refusal_line, report};
+use drawing::fault::{DrawFault, DrawRefusal};
+use drawing::report::{print_or_refuse, report};
 use drawing::seating::seat_all;
 use orders::wheel::Wheel;
-use request::{Beacons, Request, asks_for_help, read_request};
+use request::{Beacons, Request, asks_for_help, read_request, round_count};
 use shuffle::Shuffle;
 use std::alloc::Global;
 use std::env;
@@ -29,41 +28,24 @@ example: draw 4 2 shuffle 7 6
 ";
 
 // The drawing that was asked for.
-fn drawn(heap: Global, request: &Request) -> Result<String, DrawFault> {
-    let roster = seat_all(request.seats, request.byzantine.as_slice())?;
+fn drawn(alloc: Global, request: &Request) -> Result<String, DrawFault> {
+    let roster = seat_all(request.seats, request.byzantine.as_slice()).map_err(DrawRefusal::from)?;
+    let rounds = round_count(request.rounds)?;
     match request.beacon {
-        Beacons::Wheel => report(heap, &roster, &Wheel::new(request.seats), request.rounds),
-        Beacons::Shuffle(seed) => report(
-            heap,
-            &roster,
-            &Shuffle::new(seed, request.seats),
-            request.rounds,
-        ),
-    }
-}
-
-fn run(rt: &HostRuntime) -> anyhow::Result<()> {
-    let mut words = Vec::new(rt.alloc());
-    for word in env::args(rt)?.skip(1) {
-        words.push(word)?;
-    }
-    if asks_for_help(words.as_slice()) {
-        rt.print(USAGE)?;
-        return Ok(());
-    }
-    let request = read_request(rt.alloc(), words.as_slice())?;
-    match drawn(rt.alloc(), &request) {
-        Ok(text) => {
-            rt.print(text)?;
-            Ok(())
-        }
-        Err(fault) => {
-            rt.print(refusal_line(rt.alloc(), fault)?)?;
-            Err(anyhow!("nothing was drawn"))
+        Beacons::Wheel => report(alloc, &roster, &Wheel::new(request.seats), rounds),
+        Beacons::Shuffle(seed) => {
+            report(alloc, &roster, &Shuffle::new(seed, request.seats), rounds)
         }
     }
 }
 
 fn main(rt: HostRuntime) -> anyhow::Result<()> {
-    run(&rt)
+    let words: Vec<String> = env::args(&rt)?.skip(1).collect(rt.alloc())?;
+    if asks_for_help(words.as_slice()) {
+        rt.print(USAGE)?;
+        return Ok(());
+    }
+    let request = read_request(rt.alloc(), words.as_slice())?;
+    let text = drawn(rt.alloc(), &request);
+    print_or_refuse(&rt, rt.alloc(), text, "nothing was drawn")
 }

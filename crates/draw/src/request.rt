@@ -1,8 +1,10 @@
 //! What the arguments ask for.
-ghost use Rattle.std.specs.Prelude.{◌≡◌, ◌<◌, true, length, if◌then◌else◌, OnOk, nat_lt};
+ghost use Rattle.std.specs.Prelude.{◌≡◌, ◌<◌, true, length, OnOk, MatchResult};
+ghost use Rattle.drawing.specs.declared.fault.DrawRefusal.TheVariants.{Rounds};
 
 use anyhow::anyhow;
-use arguments::{eight_bits, number};
+use arguments::{clamped, number};
+use drawing::fault::DrawRefusal;
 use std::alloc::Global;
 
 /// Which beacon draws the orders.
@@ -12,53 +14,48 @@ pub enum Beacons {
     Shuffle(u64),
 }
 
-/// What to draw. Counts too large for their type are the largest that it has, which every check refuses.
+/// What to draw. Seats too large for their type are the largest that it has: the roster refuses them, in its own order.
 #[derive(Drop)]
 pub struct Request {
     pub seats: u8,
     pub byzantine: Vec<u8>,
     pub beacon: Beacons,
-    pub rounds: u16,
+    pub rounds: u64,
 }
 
-// A number of rounds; 0, which no beacon covers, where there are too many.
-fn round_count(count: u64) -> u16
-    ensures { result ≡ (if nat_lt 65535 count then 0 else count) }
+/// A number of rounds. More than any beacon covers are refused as the drawing refuses them.
+pub fn round_count(count: u64) -> Result<u16, DrawRefusal>
+    ensures { MatchResult result (λ r. r ≡ count) (λ e. (65535 < count) × (e ≡ Rounds)) }
 {
-    if count > 65535 { 0 } else { count as u16 }
+    u16::try_from(count).map_err(|_| DrawRefusal::Rounds)
 }
 
-fn needed(heap: Global, word: &str) -> anyhow::Result<u64> {
-    match number(word) {
-        Some(x) => Ok(x),
-        None => Err(anyhow!(format!(in heap; "not a number: {word}")?)),
-    }
+fn needed(word: &str) -> anyhow::Result<u64> {
+    number(word).ok_or_else(|| anyhow!("not a number: {word}"))
 }
 
 // The seats of a list such as 0,3, or of the word none.
-fn seats(heap: Global, word: &str) -> anyhow::Result<Vec<u8>> {
-    let mut list = Vec::new(heap);
+fn seats(alloc: Global, word: &str) -> anyhow::Result<Vec<u8>> {
     if word == "none" {
-        return Ok(list);
+        return Ok(Vec::new(alloc));
     }
-    for part in word.split(',') {
-        list.push(eight_bits(needed(heap, part)?))?;
-    }
-    Ok(list)
+    word.split(',')
+        .map(|part| needed(part).map(clamped::<u8>))
+        .try_collect(alloc)
 }
 
 fn parts(
-    heap: Global,
+    alloc: Global,
     n: &str,
     byzantine: &str,
     beacon: Beacons,
     rounds: &str,
 ) -> anyhow::Result<Request> {
     Ok(Request {
-        seats: eight_bits(needed(heap, n)?),
-        byzantine: seats(heap, byzantine)?,
+        seats: clamped(needed(n)?),
+        byzantine: seats(alloc, byzantine)?,
         beacon,
-        rounds: round_count(needed(heap, rounds)?),
+        rounds: needed(rounds)?,
     })
 }
 
@@ -73,13 +70,13 @@ pub fn asks_for_help(words: &[String]) -> bool
 }
 
 /// What the arguments ask for: four words or five. An error says which of them is not understood.
-pub fn read_request(heap: Global, words: &[String]) -> anyhow::Result<Request>
+pub fn read_request(alloc: Global, words: &[String]) -> anyhow::Result<Request>
     ensures { OnOk result ((3 < length words.now) × (length words.now < 6)) }
 {
     match words {
         [n, byzantine, wheel, rounds] if wheel.as_str() == "wheel" => {
             parts(
-                heap,
+                alloc,
                 n.as_str(),
                 byzantine.as_str(),
                 Beacons::Wheel,
@@ -87,9 +84,9 @@ pub fn read_request(heap: Global, words: &[String]) -> anyhow::Result<Request>
             )
         }
         [n, byzantine, shuffle, seed, rounds] if shuffle.as_str() == "shuffle" => {
-            let seed = needed(heap, seed.as_str())?;
+            let seed = needed(seed.as_str())?;
             parts(
-                heap,
+                alloc,
                 n.as_str(),
                 byzantine.as_str(),
                 Beacons::Shuffle(seed),

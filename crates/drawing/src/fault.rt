@@ -1,66 +1,48 @@
 //! Why a drawing is not made.
 ghost use Rattle.std.specs.Prelude.{◌≡◌};
-ghost use Rattle.drawing.specs.Faults.{draw_fault_number, draw_fault_sentence};
-ghost use Rattle.drawing.specs.declared.fault.DrawFault.TheVariants as the_fault;
+ghost use Rattle.drawing.specs.declared.fault.DrawRefusal.TheVariants as refusal;
 
+use refusals::{Refusal, TextFault};
 use roster::fault::RosterFault;
-use std::alloc::AllocError;
-use std::fmt;
 
+/// Why the rounds of a roster are not drawn.
 #[derive(Clone, Copy, PartialEq, Eq, Debug)]
-pub enum DrawFault {
+pub enum DrawRefusal {
     /// The roster refused.
     Roster(RosterFault),
     /// No rounds are asked for, or more than the beacon covers, or the beacon is for another seat count.
     Rounds,
-    /// Memory ran out.
-    Memory,
 }
 
-impl From<RosterFault> for DrawFault {
-    ghost from_gives = { λ e r. r ≡ the_fault.Roster e };
+/// Why there is no drawing: a refusal, or memory ran out.
+pub type DrawFault = TextFault<DrawRefusal>;
 
-    fn from(e: RosterFault) -> DrawFault {
-        DrawFault::Roster(e)
+impl From<RosterFault> for DrawRefusal {
+    ghost from_gives = { λ e r. r ≡ refusal.Roster e };
+
+    fn from(e: RosterFault) -> DrawRefusal {
+        DrawRefusal::Roster(e)
     }
 }
 
-impl From<AllocError> for DrawFault {
-    ghost from_gives = { λ _ r. r ≡ the_fault.Memory };
+impl Refusal for DrawRefusal {
+    ghost use Rattle.drawing.specs.Faults.{draw_refusal_number, draw_refusal_sentence};
 
-    fn from(_e: AllocError) -> DrawFault {
-        Self::Memory
-    }
-}
+    ghost number = { draw_refusal_number };
 
-impl From<fmt::Error> for DrawFault {
-    ghost from_gives = { λ _ r. r ≡ the_fault.Memory };
+    ghost sentence = { draw_refusal_sentence };
 
-    fn from(_e: fmt::Error) -> DrawFault {
-        DrawFault::Memory
-    }
-}
-
-impl DrawFault {
-    /// The number that the refusal is printed with, 0 for want of memory.
-    pub fn number(self) -> u8
-        ensures { result ≡ draw_fault_number self }
-    {
+    fn number(self) -> u8 {
         match self {
-            DrawFault::Roster(f) => f.number(),
-            DrawFault::Rounds => 6,
-            DrawFault::Memory => 0,
+            DrawRefusal::Roster(fault) => fault.number(),
+            DrawRefusal::Rounds => 6,
         }
     }
 
-    /// The refusal in a plain sentence.
-    pub fn sentence(self) -> &'static str
-        ensures { result.now ≡ draw_fault_sentence self }
-    {
+    fn sentence(self) -> &'static str {
         match self {
-            DrawFault::Roster(f) => f.sentence(),
-            DrawFault::Rounds => "the beacon has no such rounds",
-            DrawFault::Memory => "out of memory",
+            DrawRefusal::Roster(fault) => fault.sentence(),
+            DrawRefusal::Rounds => "the beacon has no such rounds",
         }
     }
 }

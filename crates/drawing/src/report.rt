@@ -1,21 +1,23 @@
 //! The text of a drawing.
-ghost use Rattle.std.specs.Prelude.{◌≡◌, true, ◌++◌, IfOk, string_bytes, MatchResult};
+ghost use Rattle.std.specs.Prelude.{◌≡◌, true, ◌++◌, OnOk, IfOk, IsOk, string_bytes, MatchResult};
 ghost use Rattle.orders.specs.Ranking.{covers};
 ghost use Rattle.drawing.specs.Leaders.{beacon_fits};
-ghost use Rattle.drawing.specs.Report.{roster_line, round_line, round_lines, honest_line, report_text, NoReport, numbered_line, refusal_line};
-ghost use Rattle.drawing.specs.declared.fault.DrawFault.TheVariants.{Memory};
+ghost use Rattle.drawing.specs.Report.{roster_line, round_line, honest_line, report_text, NoReport, numbered_line};
 
-use crate::fault::DrawFault;
+use crate::fault::{DrawFault, DrawRefusal};
 use crate::leaders::honest_rounds;
 use crate::words::{seat_words, side_word};
+use anyhow::anyhow;
 use numbers::{majority, most_byzantine};
 use orders::{Beacon, seats_by_rank};
+use refusals::Refusal;
 use roster::roster::Roster;
 use std::alloc::{AllocError, Global};
+use std::io::Print;
 
 // The roster in a line.
-fn write_roster(out: &mut String, roster: &Roster) -> Result<(), DrawFault>
-    ensures { MatchResult result (λ _. string_bytes out.new ≡ string_bytes out.old ++ roster_line roster.now.n roster.now.marks) (λ e. e ≡ Memory) }
+fn write_roster(out: &mut String, roster: &Roster) -> Result<(), AllocError>
+    ensures { OnOk result (string_bytes out.new ≡ string_bytes out.old ++ roster_line roster.now.n roster.now.marks) }
 {
     let n = roster.seat_count();
     let byzantine = roster.byzantine_count();
@@ -24,8 +26,7 @@ fn write_roster(out: &mut String, roster: &Roster) -> Result<(), DrawFault>
     writeln!(
         out,
         "seats {n}, Byzantine {byzantine} of at most {most}, majority {quorum}"
-    )?;
-    Ok(())
+    )
 }
 
 // A round that the beacon covers, in a line.
@@ -34,9 +35,9 @@ fn write_round<B: Beacon>(
     roster: &Roster,
     beacon: &B,
     round: u16,
-) -> Result<(), DrawFault>
+) -> Result<(), AllocError>
     requires { covers (B.ranking beacon.now) round ≡ true }
-    ensures { MatchResult result (λ _. string_bytes out.new ≡ string_bytes out.old ++ round_line roster.now.n roster.now.marks (B.ranking beacon.now) round) (λ e. e ≡ Memory) }
+    ensures { OnOk result (string_bytes out.new ≡ string_bytes out.old ++ round_line roster.now.n roster.now.marks (B.ranking beacon.now) round) }
 {
     let n = beacon.seat_count();
     let Some(seats) = seats_by_rank(beacon, round) else {
@@ -46,37 +47,19 @@ fn write_round<B: Beacon>(
     let side = side_word(roster.is_honest(leader));
     write!(out, "round {round} leader {leader} {side} order")?;
     seat_words(out, &seats[0..n as usize])?;
-    out.push_str("\n")?;
-    Ok(())
-}
-
-// The rounds from 1 to `rounds`, a line each.
-fn write_rounds<B: Beacon>(
-    out: &mut String,
-    roster: &Roster,
-    beacon: &B,
-    rounds: u16,
-) -> Result<(), DrawFault>
-    requires { covers (B.ranking beacon.now) rounds ≡ true }
-    ensures { MatchResult result (λ _. string_bytes out.new ≡ string_bytes out.old ++ round_lines roster.now.n roster.now.marks (B.ranking beacon.now) rounds) (λ e. e ≡ Memory) }
-{
-    for before in 0..rounds {
-        write_round(out, roster, beacon, before + 1)?;
-    }
-    Ok(())
+    out.push_str("\n")
 }
 
 // How many of the rounds an honest seat leads, in a line.
-fn write_honest(out: &mut String, led: u16, rounds: u16) -> Result<(), DrawFault>
-    ensures { MatchResult result (λ _. string_bytes out.new ≡ string_bytes out.old ++ honest_line led rounds) (λ e. e ≡ Memory) }
+fn write_honest(out: &mut String, led: u16, rounds: u16) -> Result<(), AllocError>
+    ensures { OnOk result (string_bytes out.new ≡ string_bytes out.old ++ honest_line led rounds) }
 {
-    writeln!(out, "rounds {rounds}, led by honest seats {led}")?;
-    Ok(())
+    writeln!(out, "rounds {rounds}, led by honest seats {led}")
 }
 
 /// The drawing of the rounds from 1 to `rounds`: the roster, a line for each round, and how many an honest seat leads.
 pub fn report<B: Beacon>(
-    heap: Global,
+    alloc: Global,
     roster: &Roster,
     beacon: &B,
     rounds: u16,
@@ -84,25 +67,45 @@ pub fn report<B: Beacon>(
     ensures { MatchResult result (λ s. (beacon_fits roster.now.n (B.ranking beacon.now) rounds ≡ true) × (string_bytes s ≡ report_text roster.now.n roster.now.marks (B.ranking beacon.now) rounds)) (λ e. NoReport roster.now.n (B.ranking beacon.now) rounds e) }
 {
     if rounds == 0 || rounds > beacon.last_round() || beacon.seat_count() != roster.seat_count() {
-        return Err(DrawFault::Rounds);
+        return Err(DrawFault::Refused(DrawRefusal::Rounds));
     }
-    let mut out = String::new(heap);
+    let mut out = String::new(alloc);
     write_roster(&mut out, roster)?;
-    write_rounds(&mut out, roster, beacon, rounds)?;
+    for round in 1..=rounds {
+        write_round(&mut out, roster, beacon, round)?;
+    }
     write_honest(&mut out, honest_rounds(roster, beacon, rounds), rounds)?;
     Ok(out)
 }
 
 /// A numbered sentence in a line.
-pub fn numbered_line(heap: Global, number: u8, sentence: &str) -> Result<String, AllocError>
+pub fn numbered_line(alloc: Global, number: u8, sentence: &str) -> Result<String, AllocError>
     ensures { IfOk result (λ s. string_bytes s ≡ numbered_line number sentence.now) }
 {
-    format!(in heap; "refused {number}: {sentence}\n")
+    format!(in alloc; "refused {number}: {sentence}\n")
 }
 
 /// A refusal as it is printed: its number and a plain sentence.
-pub fn refusal_line(heap: Global, fault: DrawFault) -> Result<String, AllocError>
-    ensures { IfOk result (λ s. string_bytes s ≡ refusal_line fault) }
+pub fn refusal_line<F: Refusal>(alloc: Global, fault: F) -> Result<String, AllocError>
+    ensures { IfOk result (λ s. string_bytes s ≡ numbered_line (F.number fault) (F.sentence fault)) }
 {
-    numbered_line(heap, fault.number(), fault.sentence())
+    numbered_line(alloc, fault.number(), fault.sentence())
+}
+
+/// Prints what a program was asked for. Where that is refused it prints the refusal, and says in an error what there is not.
+pub fn print_or_refuse<P: Print, F: Refusal>(
+    out: &P,
+    alloc: Global,
+    asked: Result<String, F>,
+    nothing: &'static str,
+) -> anyhow::Result<()>
+    ensures { OnOk result (IsOk asked) }
+{
+    match asked {
+        Ok(text) => Ok(out.print(text)?),
+        Err(fault) => {
+            out.print(refusal_line(alloc, fault)?)?;
+            Err(anyhow!(nothing))
+        }
+    }
 }

@@ -10,8 +10,8 @@ pub fn seat_all(n: u8, byzantine: &[u8]) -> Result<Roster, RosterFault>
     ensures { MatchResult result (λ t. (seated n byzantine.now ≡ Ok t.marks) × (t.n ≡ n)) (λ e. seated n byzantine.now ≡ Err e) }
 {
     let mut roster = Roster::start(n)?;
-    for s in byzantine {
-        roster.mark(*s)?;
+    for &seat in byzantine {
+        roster.mark(seat)?;
     }
     Ok(roster)
 }

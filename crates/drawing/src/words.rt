@@ -1,16 +1,14 @@
 //! The parts of a line.
-ghost use Rattle.std.specs.Prelude.{◌≡◌, ◌++◌, string_bytes, MatchResult};
+ghost use Rattle.std.specs.Prelude.{◌≡◌, ◌++◌, OnOk, string_bytes};
 ghost use Rattle.drawing.specs.Report.{seat_words, side_word};
-ghost use Rattle.drawing.specs.declared.fault.DrawFault.TheVariants.{Memory};
 
-use crate::fault::DrawFault;
+use std::alloc::AllocError;
 
 // Each seat after a space.
-pub(crate) fn seat_words(out: &mut String, seats: &[u8]) -> Result<(), DrawFault>
-    ensures { MatchResult result (λ _. string_bytes out.new ≡ string_bytes out.old ++ seat_words seats.now) (λ e. e ≡ Memory) }
+pub(crate) fn seat_words(out: &mut String, seats: &[u8]) -> Result<(), AllocError>
+    ensures { OnOk result (string_bytes out.new ≡ string_bytes out.old ++ seat_words seats.now) }
 {
-    for s in seats {
-        let seat = *s;
+    for &seat in seats {
         write!(out, " {seat}")?;
     }
     Ok(())

@@ -3,5 +3,6 @@
 
 pub mod messages;
 pub mod notarised;
+pub mod sent;
 pub mod signatures;
 pub mod taking;

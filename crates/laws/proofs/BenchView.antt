@@ -6,7 +6,7 @@ use Rattle.records.specs.Kind.{Kind}
 use Rattle.rules.specs.Sets.{bit}
 use Rattle.rules.specs.Setup.{Setup, honest, block_round, block_owner, own_block}
 use Rattle.rules.specs.Ranks.{rank_at, rank}
-use Rattle.rules.specs.Tables.{Tables, is_waiting, block_at, seat_at, valid, received_at, vote_at, certificate_at, entered_at}
+use Rattle.rules.specs.Tables.{Tables, is_waiting, block_at, seat_at, valid, received_at, vote_at, certificate_at, entered_at, has_signed, signing_tick}
 use Rattle.laws.proofs.View.{Terms, View}
 
 -- what an accepted opening gives; f is `ones s.marks`
@@ -43,8 +43,8 @@ view s K t = record {
   made = λ b. (block_at t b).made;
   valid = valid K t;
   parent = λ b. (block_at t b).parent;
-  signed = λ i b. cond (ltb i s.n) (vote_at s t i b).sent false;
-  signed_at = λ i b. (vote_at s t i b).tick;
+  signed = λ i b. cond (ltb i s.n) (has_signed (vote_at s t i b)) false;
+  signed_at = λ i b. signing_tick (vote_at s t i b);
   held = λ i b. (received_at s t i b).held;
   received = λ i b x. bit (received_at s t i b).signers x;
   carried = λ b x. bit (block_at t b).carried x;

@@ -6,7 +6,7 @@ use Rattle.rules.specs.declared.fault.BenchFault.TheVariants.{NeverSent, NoSuchB
 use Rattle.rules.specs.declared.rows.ReceivedRow.{ReceivedRow}
 use Rattle.rules.specs.Sets.{bit}
 use Rattle.rules.specs.Setup.{Setup, honest}
-use Rattle.rules.specs.Tables.{Tables, block_at, certificate_at, fits, received_at, seat_at, vote_at, with_drafts, with_received}
+use Rattle.rules.specs.Tables.{Tables, block_at, certificate_at, fits, received_at, seat_at, vote_at, with_drafts, with_received, has_signed}
 use Rattle.rules.specs.Holding.{has_certificate, has_vote, receives, takes_in}
 use Rattle.rules.specs.Seat.{react}
 use Rattle.rules.specs.Overdue.{certificate_sent}
@@ -97,7 +97,7 @@ module _ {A : Type 0} (s : Setup) (K : Kind A) (P : Proper s) (idles : IdleFollo
   vote_settles i j b t z =
       let x7 = done (react s K (receives s (takes_in s t j b) j b (2 ^ i)) j) in
       let x6 = cond (has_vote s t i b j) (refused NothingNew t) x7 in
-      let x5 = cond (vote_at s t i b).sent x6 (refused NeverSent t) in
+      let x5 = cond (has_signed (vote_at s t i b)) x6 (refused NeverSent t) in
       let x4 = cond (block_at t b).made x5 (refused NoSuchBlock t) in
       let x3 = cond (fits s t) x4 (refused TableLength t) in
       let x2 = cond (honest s j) x3 (refused SeatIsByzantine t) in
@@ -107,10 +107,10 @@ module _ {A : Type 0} (s : Setup) (K : Kind A) (P : Proper s) (idles : IdleFollo
       (λ lj. either s K P idles Q (honest s j) x3 (refused SeatIsByzantine t)
       (λ h. either s K P idles Q (fits s t) x4 (refused TableLength t)
       (λ e. either s K P idles Q (block_at t b).made x5 (refused NoSuchBlock t)
-      (λ m. either s K P idles Q (vote_at s t i b).sent x6 (refused NeverSent t)
+      (λ m. either s K P idles Q (has_signed (vote_at s t i b)) x6 (refused NeverSent t)
       (λ v. either s K P idles Q (has_vote s t i b j) (refused NothingNew t) x7 (λ e. same s K P idles z)
       (λ e. reacts j t (receives s (takes_in s t j b) j b (2 ^ i)).received z (yes_T h) (hold_receive j b (2 ^ i) t z.sound (honest_below s j (yes_T h)) (yes_T m)
-      (λ x q. subst (λ (y : ℕ). T ((view s K t).signed y b)) (sym (bit_other i x q)) (both (ltb i s.n) (vote_at s t i b).sent (yes_T li) (yes_T v))))))
+      (λ x q. subst (λ (y : ℕ). T ((view s K t).signed y b)) (sym (bit_other i x q)) (both (ltb i s.n) (has_signed (vote_at s t i b)) (yes_T li) (yes_T v))))))
       (λ e. same s K P idles z)) (λ e. same s K P idles z)) (λ e. same s K P idles z)) (λ e. same s K P idles z)) (λ e. same s K P idles z)) (λ e. same s K P idles z)
     where
       Q : Outcome A → Type 0

@@ -4,7 +4,7 @@ use Rattle.records.specs.Kind.{IdleFollows, Kind}
 use Rattle.rules.specs.Counting.{count}
 use Rattle.rules.specs.Chains.{ancestor}
 use Rattle.rules.specs.Setup.{Setup, block_round, honest}
-use Rattle.rules.specs.Tables.{Tables, block_at, seat_at, vote_at}
+use Rattle.rules.specs.Tables.{Tables, block_at, seat_at, vote_at, has_signed}
 use Rattle.laws.proofs.Chains.{On}
 use Rattle.laws.proofs.Counts.{count_mono_below}
 use Rattle.laws.proofs.View.{FinalAt, IsNotarised}
@@ -39,6 +39,6 @@ module _ {A : Type 0} (s : Setup) (K : Kind A) (P : Proper s) (idles : IdleFollo
   final_in i b x = (x.back, x.there)
 
   -- a block that a quorum has signed
-  pub notarised_on : (b : ℕ) → s.quorum ≤ count s.n (λ i. (vote_at s t i b).sent) → IsNotarised (terms_of s) (view s K t) b
-  notarised_on b n = le_trans n (count_mono_below s.n (λ i. (vote_at s t i b).sent) (λ i. (view s K t).signed i b)
-      (λ i l q. both (ltb i s.n) (vote_at s t i b).sent (lt→ltb i s.n l) q))
+  pub notarised_on : (b : ℕ) → s.quorum ≤ count s.n (λ i. has_signed (vote_at s t i b)) → IsNotarised (terms_of s) (view s K t) b
+  notarised_on b n = le_trans n (count_mono_below s.n (λ i. has_signed (vote_at s t i b)) (λ i. (view s K t).signed i b)
+      (λ i l q. both (ltb i s.n) (has_signed (vote_at s t i b)) (lt→ltb i s.n l) q))

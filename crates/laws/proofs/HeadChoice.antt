@@ -1,9 +1,10 @@
 -- The laws of the head choice: of an honest seat whose tables are sound, at the end of its wait.
-use Rattle.std.proofs.Common.{◌≡◌, ℕ, suc, ◌+◌, ◌-◌, ◌<◌, ◌≤◌, Bool, true, false, cond, not, T, eqb, leb, ◌⊎◌, Some, None, Option, sym, refl, ap, ◌∙◌, subst, inl, inr, ⊎_elim, arith, le→leb, eqb→eq, leb→le, T_not}
+use Rattle.std.proofs.Common.{is_some, ◌≡◌, ℕ, suc, ◌+◌, ◌-◌, ◌<◌, ◌≤◌, Bool, true, false, cond, not, T, eqb, leb, ◌⊎◌, Some, None, Option, sym, refl, ap, ◌∙◌, subst, inl, inr, ⊎_elim, arith, le→leb, eqb→eq, leb→le, T_not}
 use native.Mathlib.Decide.{dec_le}
 use lib.Dec.{eqb_refl, not_T}
+use Rattle.std.proofs.lemmas.Bool.{cases_Bool}
 use Rattle.records.specs.Kind.{IdleFollows, Kind}
-use Rattle.rules.specs.Loops.{first_from, is_some}
+use Rattle.rules.specs.Loops.{first_from}
 use Rattle.rules.specs.Setup.{Setup, block_round, honest, round_start, round_width}
 use Rattle.rules.specs.Tables.{Tables, block_at, received_at, seat_at, valid}
 use Rattle.rules.specs.VotingChoice.{holds_valid}
@@ -11,7 +12,7 @@ use Rattle.rules.specs.HeadChoice.{head_from, next_head}
 use Rattle.laws.proofs.Chains.{On}
 use Rattle.laws.proofs.View.{View}
 use Rattle.laws.proofs.Facts.{notarisation_held, notarisation_real, notarised_valid}
-use Rattle.laws.proofs.Tests.{both, both_l, both_r, no_T, split, yes_T}
+use Rattle.laws.proofs.Tests.{both, both_l, both_r, no_T, yes_T}
 use Rattle.laws.proofs.Loops.{First, first_none, first_some}
 use Rattle.laws.proofs.BenchView.{Proper, terms_of, view}
 use Rattle.laws.proofs.Numbering.{in_round, round_in}
@@ -91,7 +92,7 @@ module _ {A : Type 0} (s : Setup) (K : Kind A) (P : Proper s) (idles : IdleFollo
               (λ z. eqb→eq (parent d) (parent c) (yes_T z))
               (λ z. let o = range l d round_is in absurd (first_none (other c) start' (round_width s) d e o.0 o.1
               (both (holds_valid s K t i d) (not (eqb (parent d) (parent c))) q (not_T (eqb (parent d) (parent c)) (no_T z)))))
-              (split (eqb (parent d) (parent c)));
+              (cases_Bool (eqb (parent d) (parent c)));
         })
         third l c y (Some d) e =
             let z = first_some (other c) start' (round_width s) d e in

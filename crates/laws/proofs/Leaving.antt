@@ -9,7 +9,7 @@ use Rattle.rules.specs.declared.rows.SeatRow.{SeatRow}
 use Rattle.rules.specs.Sets.{bit}
 use Rattle.rules.specs.Counting.{count}
 use Rattle.rules.specs.Setup.{Setup, block_round, honest, own_block}
-use Rattle.rules.specs.Tables.{Tables, block_at, certificate_at, entered_at, is_waiting, no_certificate, no_seat, no_vote, received_at, seat_at}
+use Rattle.rules.specs.Tables.{Tables, block_at, certificate_at, entered_at, is_waiting, no_certificate, no_seat, no_vote, received_at, seat_at, has_signed}
 use Rattle.rules.specs.ParentChoice.{parent_choice}
 use Rattle.rules.specs.Seat.{leave, moves_on, propose}
 use Rattle.laws.proofs.View.{NotarisedAt, View}
@@ -101,7 +101,7 @@ module _ {A : Type 0} (s : Setup) (K : Kind A) (P : Proper s) (idles : IdleFollo
           (λ e. let o = row_one s.rounds j i x r lx top e in d o.0 o.1) ∙ ap (λ z. get_or z (j * s.rounds + x) no_certificate) y.certificates
 
       signed_w : (x d : ℕ) → T (v.signed x d) → T ((view s K w).signed x d)
-      signed_w x d q = subst (λ z. T (cond (ltb x s.n) (get_or z (d * s.n + x) no_vote).sent false)) (sym y.votes) q
+      signed_w x d q = subst (λ z. T (cond (ltb x s.n) (has_signed (get_or z (d * s.n + x) no_vote)) false)) (sym y.votes) q
 
       sealed_new : Sealed s K P idles w i r
       unfolding crow

@@ -1,8 +1,9 @@
 -- Loops and searches: what they give.
 use Rattle.std.proofs.Common.{◌≡◌, ℕ, zero, suc, ◌+◌, ◌<◌, ◌≤◌, Bool, true, false, cond, T, Some, None, sym, refl, subst, le_refl, arith}
 use native.Mathlib.Decide.{ℕ_discrete}
+use Rattle.std.proofs.lemmas.Option.{none-some, same_Some}
 use Rattle.rules.specs.Loops.{any, first_from, upto}
-use Rattle.laws.proofs.Tests.{no_T, none_ne_some, some_one, yes_T}
+use Rattle.laws.proofs.Tests.{no_T, yes_T}
 
 -- what is kept by each turn is kept by all
 pub upto_keeps : {A : Type 0} (P : A → Type 0) (f : ℕ → A → A) (z : A) (k : ℕ) → P z → ((x : ℕ) (a : A) → x < k → P a → P (f x a)) → P (upto f z k)
@@ -25,11 +26,11 @@ pub record First (p : ℕ → Bool) (k m x : ℕ) : Type 0 where
 -- a search that finds x
 pub first_some : (p : ℕ → Bool) (k m x : ℕ) → first_from p k m ≡ Some x → First p k m x
 unfolding first_from
-first_some p k zero x e = absurd (none_ne_some e)
+first_some p k zero x e = absurd (none-some x e)
 first_some p k (suc m) x e = go (λ (q : first_from p (suc k) m ≡ Some x). first_some p (suc k) m x q) (p k) refl e
   where
     go : (first_from p (suc k) m ≡ Some x → First p (suc k) m x) → (b : Bool) → p k ≡ b → cond b (Some k) (first_from p (suc k) m) ≡ Some x → First p k (suc m) x
-    go ih true q e = let o = some_one k x e in record { from = omega (arith, o); to = omega (arith, o); passes = subst (λ y. T (p y)) o (yes_T q) }
+    go ih true q e = let o = same_Some k x e in record { from = omega (arith, o); to = omega (arith, o); passes = subst (λ y. T (p y)) o (yes_T q) }
     go ih false q e = let r = ih e in record { from = omega (arith, r.from); to = omega (arith, r.to); passes = r.passes }
 
 -- a search that finds nothing
@@ -40,7 +41,7 @@ first_none p k (suc m) x e l u t = go (λ (q : first_from p (suc k) m ≡ None) 
     (ℕ_discrete k x)
   where
     go : (first_from p (suc k) m ≡ None → suc k ≤ x → x < suc k + m → ⊥) → (b : Bool) → p k ≡ b → cond b (Some k) (first_from p (suc k) m) ≡ None → Dec (k ≡ x) → ⊥
-    go ih true q e d = none_ne_some (sym e)
+    go ih true q e d = none-some k (sym e)
     go ih false q e (yes o) = no_T q (subst (λ y. T (p y)) (sym o) t)
     go ih false q e (no o) = ih e (omega (arith, o)) (omega arith)
 

@@ -6,23 +6,7 @@ use Rattle.laws.proofs.Discipline.{Calm, Holding, Votes, Ticks, Step}
 
 -- view v with other signatures, holdings and received signatures
 abbrev pub with_messages : View → (ℕ → ℕ → Bool) → (ℕ → ℕ → ℕ) → (ℕ → ℕ → Bool) → (ℕ → ℕ → ℕ → Bool) → View
-with_messages v signed signed_at held received = record {
-  clock = v.clock;
-  honest = v.honest;
-  made = v.made;
-  valid = v.valid;
-  parent = v.parent;
-  carried = v.carried;
-  signed = signed;
-  signed_at = signed_at;
-  held = held;
-  received = received;
-  round = v.round;
-  waiting = v.waiting;
-  entered_at = v.entered_at;
-  left_by = v.left_by;
-  head = v.head;
-}
+with_messages v signed signed_at held received = record v { signed = signed; signed_at = signed_at; held = held; received = received }
 
 -- What is asked of these for a step: what was there stays, and what is new has its ground.
 pub record NewMessages (k : Terms) (v w : View) : Type 0 where
@@ -63,23 +47,7 @@ messages_step k v signed signed_at held received few d = record {
 
 -- view v a tick later
 abbrev pub later : View → View
-later v = record {
-  clock = suc v.clock;
-  honest = v.honest;
-  made = v.made;
-  valid = v.valid;
-  parent = v.parent;
-  carried = v.carried;
-  signed = v.signed;
-  signed_at = v.signed_at;
-  held = v.held;
-  received = v.received;
-  round = v.round;
-  waiting = v.waiting;
-  entered_at = v.entered_at;
-  left_by = v.left_by;
-  head = v.head;
-}
+later v = record v { clock = suc v.clock }
 
 pub tick_step : (k : Terms) (v : View) → FewByzantine k v → Ticks k v (later v) → Step k v (later v)
 tick_step k v few d = record {

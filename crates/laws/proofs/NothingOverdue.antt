@@ -6,7 +6,7 @@ use Rattle.records.specs.Kind.{IdleFollows, Kind}
 use Rattle.rules.specs.Loops.{any}
 use Rattle.rules.specs.Sets.{bit}
 use Rattle.rules.specs.Setup.{Setup, block_owner, block_round, block_rows, honest, own_block}
-use Rattle.rules.specs.Tables.{Tables, block_at, certificate_at, entered_at, received_at, seat_at, vote_at}
+use Rattle.rules.specs.Tables.{Tables, block_at, certificate_at, entered_at, received_at, seat_at, vote_at, has_signed, signing_tick}
 use Rattle.rules.specs.Holding.{has_certificate, has_vote}
 use Rattle.rules.specs.Overdue.{block_overdue, certificate_overdue, certificate_sent, lacks_block, late, overdue, vote_overdue}
 use Rattle.laws.proofs.Counts.{count_mono, holds}
@@ -81,7 +81,7 @@ module _ {A : Type 0} (s : Setup) (K : Kind A) (P : Proper s) (idles : IdleFollo
             (both (late s t (entered_at s t (block_owner s b) (block_round s b))) (any (lacks_block s t b) s.n) late' q)))
 
     -- a vote
-    pub votes_due : (i b : ℕ) → T (honest s i) → T (v.signed i b) → (vote_at s t i b).tick + s.delay ≤ suc t.clock → (j : ℕ) → T (honest s j)
+    pub votes_due : (i b : ℕ) → T (honest s i) → T (v.signed i b) → signing_tick (vote_at s t i b) + s.delay ≤ suc t.clock → (j : ℕ) → T (honest s j)
         → T (v.held j b) × T (v.received j b i)
     votes_due i b h signed_there due j hj =
         let x = all_have (λ j. has_vote s t i b j) none j hj in
@@ -97,10 +97,10 @@ module _ {A : Type 0} (s : Setup) (K : Kind A) (P : Proper s) (idles : IdleFollo
         none q =
             let row = any_none (λ b. any (vote_overdue s t b) s.n) (block_rows s) no_vote_late b (made_room s K P idles t f b made) in
             any_none (vote_overdue s t b) s.n (T_no (any (vote_overdue s t b) s.n) row) i (honest_below s i h)
-            (both (vote_at s t i b).sent (cond (honest s i) (cond (late s t (vote_at s t i b).tick) lack false) false)
-            (both_r (ltb i s.n) (vote_at s t i b).sent signed_there)
-            (both (honest s i) (cond (late s t (vote_at s t i b).tick) lack false) h
-            (both (late s t (vote_at s t i b).tick) lack (le→leb ((vote_at s t i b).tick + s.delay) (suc t.clock) due) q)))
+            (both (has_signed (vote_at s t i b)) (cond (honest s i) (cond (late s t (signing_tick (vote_at s t i b))) lack false) false)
+            (both_r (ltb i s.n) (has_signed (vote_at s t i b)) signed_there)
+            (both (honest s i) (cond (late s t (signing_tick (vote_at s t i b))) lack false) h
+            (both (late s t (signing_tick (vote_at s t i b))) lack (le→leb (signing_tick (vote_at s t i b) + s.delay) (suc t.clock) due) q)))
 
     -- a certificate
     pub certificates_due : (i r : ℕ) → T (honest s i) → r < (seat_at t i).round → 1 ≤ r → entered_at s t i (suc r) + s.delay ≤ suc t.clock → (j : ℕ)

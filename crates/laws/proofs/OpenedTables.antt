@@ -8,7 +8,7 @@ use Rattle.rules.specs.declared.rows.ReceivedRow.{ReceivedRow}
 use Rattle.rules.specs.Loops.{writes}
 use Rattle.rules.specs.Sets.{bit}
 use Rattle.rules.specs.Setup.{Setup, block_owner, block_round, block_rows, honest, own_block}
-use Rattle.rules.specs.Tables.{entered_at, is_waiting, no_block, no_certificate, no_seat, no_vote, nothing_received, record_at, valid}
+use Rattle.rules.specs.Tables.{entered_at, is_waiting, no_block, no_certificate, no_seat, no_vote, nothing_received, record_at, valid, has_signed}
 use Rattle.rules.specs.Holding.{hold_row}
 use Rattle.rules.specs.Opening.{first_block, opened_tables}
 use Rattle.laws.proofs.Sets.{bit_none}
@@ -184,7 +184,7 @@ module _ {A : Type 0} (s : Setup) (K : Kind A) (P : Proper s) (idles : IdleFollo
     rounds = λ i h. ap (λ a. a.round) (opened_seat i h);
     entered_at = entered;
     waiting = λ i h. subst (λ a. T (is_waiting a.phase)) (sym (opened_seat i h)) tt;
-    unsigned = λ i b t. subst (λ a. T a.sent) (no_votes (b * s.n + i)) (both_r (ltb i s.n) (get_or (opened_tables s K).votes (b * s.n + i) no_vote).sent t);
+    unsigned = λ i b t. subst (λ a. T (has_signed a)) (no_votes (b * s.n + i)) (both_r (ltb i s.n) (has_signed (get_or (opened_tables s K).votes (b * s.n + i) no_vote)) t);
     none_received = λ i b x h t. bit_none x (subst (λ (m : ℕ). T (bit m x)) (received_row (b * s.n + i)).silent t);
     none_carried = λ b x t. bit_none x (subst (λ (m : ℕ). T (bit m x)) (no_carried b) t);
     root_made = root_made;

@@ -7,7 +7,7 @@ use Rattle.rules.specs.declared.fault.BenchFault.{BenchFault}
 use Rattle.rules.specs.declared.fault.BenchFault.TheVariants.{ClockStopped, EditionOutOfRange, MessageOverdue, NeverSent, NoSuchBlock, NoSuchSeat, NothingNew, RoundOutOfRange, SeatIsByzantine, SeatIsHonest, TableLength, WrongParent}
 use Rattle.rules.specs.Loops.{upto}
 use Rattle.rules.specs.Setup.{Setup, block_round, honest}
-use Rattle.rules.specs.Tables.{Tables, block_at, certificate_at, fits, next_tick, received_at, vote_at, with_drafts, with_votes}
+use Rattle.rules.specs.Tables.{Tables, block_at, certificate_at, fits, next_tick, received_at, vote_at, with_drafts, with_votes, has_signed}
 use Rattle.rules.specs.Holding.{has_certificate, has_vote, receives, signers, takes_in}
 use Rattle.rules.specs.Seat.{react, with_block}
 use Rattle.rules.specs.Overdue.{certificate_sent, overdue}
@@ -54,14 +54,14 @@ module _ {A : Type 0} (s : Setup) (K : Kind A) (t : Tables A) (Q : Outcome A →
   vote_outcome i j b ok =
       let w = react s K (receives s (takes_in s t j b) j b (2 ^ i)) j in
       let x6 = cond (has_vote s t i b j) (refused NothingNew t) (done w) in
-      let x5 = cond (vote_at s t i b).sent x6 (refused NeverSent t) in
+      let x5 = cond (has_signed (vote_at s t i b)) x6 (refused NeverSent t) in
       let x4 = cond (block_at t b).made x5 (refused NoSuchBlock t) in
       let x3 = cond (fits s t) x4 (refused TableLength t) in
       let x2 = cond (honest s j) x3 (refused SeatIsByzantine t) in
       test Q (ltb i s.n) (cond (ltb j s.n) x2 (refused NoSuchSeat t)) (refused NoSuchSeat t)
       (test Q (ltb j s.n) x2 (refused NoSuchSeat t) (test Q (honest s j) x3 (refused SeatIsByzantine t)
       (test Q (fits s t) x4 (refused TableLength t) (test Q (block_at t b).made x5 (refused NoSuchBlock t)
-      (test Q (vote_at s t i b).sent x6 (refused NeverSent t) (test Q (has_vote s t i b j) (refused NothingNew t) (done w) (no NothingNew) ok) (no NeverSent))
+      (test Q (has_signed (vote_at s t i b)) x6 (refused NeverSent t) (test Q (has_vote s t i b j) (refused NothingNew t) (done w) (no NothingNew) ok) (no NeverSent))
       (no NoSuchBlock)) (no TableLength)) (no SeatIsByzantine)) (no NoSuchSeat))
       (no NoSuchSeat)
 
@@ -109,16 +109,16 @@ module _ {A : Type 0} (s : Setup) (K : Kind A) (t : Tables A) (Q : Outcome A →
       (no RoundOutOfRange)))
       (no NoSuchSeat)
 
-  pub sign_outcome : (i b : ℕ) → Q (done (receives s (takes_in s (with_votes t (set t.votes (b * s.n + i) (record { sent = true; tick = t.clock }))
+  pub sign_outcome : (i b : ℕ) → Q (done (receives s (takes_in s (with_votes t (set t.votes (b * s.n + i) (record { sent = Some t.clock }))
       t.received) i b) i b (2 ^ i))) → Q (sign s K i b t)
   unfolding sign
   sign_outcome i b ok =
-      let w = receives s (takes_in s (with_votes t (set t.votes (b * s.n + i) (record { sent = true; tick = t.clock })) t.received) i b) i b (2 ^ i) in
-      let x4 = cond (vote_at s t i b).sent (refused NothingNew t) (done w) in
+      let w = receives s (takes_in s (with_votes t (set t.votes (b * s.n + i) (record { sent = Some t.clock })) t.received) i b) i b (2 ^ i) in
+      let x4 = cond (has_signed (vote_at s t i b)) (refused NothingNew t) (done w) in
       let x3 = cond (cond (ltb 0 b) (block_at t b).made false) x4 (refused NoSuchBlock t) in
       let x2 = cond (fits s t) x3 (refused TableLength t) in
       test Q (ltb i s.n) (cond (honest s i) (refused SeatIsHonest t) x2) (refused NoSuchSeat t)
       (test Q (honest s i) (refused SeatIsHonest t) x2 (no SeatIsHonest) (test Q (fits s t) x3 (refused TableLength t)
       (test Q (cond (ltb 0 b) (block_at t b).made false) x4 (refused NoSuchBlock t)
-      (test Q (vote_at s t i b).sent (refused NothingNew t) (done w) (no NothingNew) ok) (no NoSuchBlock)) (no TableLength)))
+      (test Q (has_signed (vote_at s t i b)) (refused NothingNew t) (done w) (no NothingNew) ok) (no NoSuchBlock)) (no TableLength)))
       (no NoSuchSeat)

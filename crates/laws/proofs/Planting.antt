@@ -10,7 +10,7 @@ use Rattle.rules.specs.declared.rows.BlockRow.{BlockRow}
 use Rattle.rules.specs.Sets.{bit}
 use Rattle.rules.specs.Counting.{count}
 use Rattle.rules.specs.Setup.{Setup, block_owner, block_round, honest, own_block}
-use Rattle.rules.specs.Tables.{Tables, block_at, fits, no_block, vote_at}
+use Rattle.rules.specs.Tables.{Tables, block_at, fits, no_block, vote_at, has_signed}
 use Rattle.rules.specs.Holding.{signers, takes_in}
 use Rattle.rules.specs.Seat.{with_block}
 use Rattle.rules.specs.Calls.{Outcome, done, plant, refused}
@@ -33,16 +33,16 @@ module _ {A : Type 0} (s : Setup) (K : Kind A) (P : Proper s) (idles : IdleFollo
   -- the signatures that exist
   signers_signed : (t : Tables A) (b x : ℕ) → T (bit (signers s t b) x) → T ((view s K t).signed x b)
   unfolding signers
-  signers_signed t b = upto_keeps (λ m. (x : ℕ) → T (bit m x) → T ((view s K t).signed x b)) (λ i m. cond (vote_at s t i b).sent (bit_or m (2 ^ i)) m) 0 s.n
+  signers_signed t b = upto_keeps (λ m. (x : ℕ) → T (bit m x) → T ((view s K t).signed x b)) (λ i m. cond (has_signed (vote_at s t i b)) (bit_or m (2 ^ i)) m) 0 s.n
       (λ x q. absurd (bit_none x q)) turn
     where
-      turn : (i m : ℕ) → i < s.n → ((x : ℕ) → T (bit m x) → T ((view s K t).signed x b)) → (x : ℕ) → T (bit (cond (vote_at s t i b).sent (bit_or m (2 ^ i)) m) x)
+      turn : (i m : ℕ) → i < s.n → ((x : ℕ) → T (bit m x) → T ((view s K t).signed x b)) → (x : ℕ) → T (bit (cond (has_signed (vote_at s t i b)) (bit_or m (2 ^ i)) m) x)
           → T ((view s K t).signed x b)
-      turn i m l p x q = go (vote_at s t i b).sent refl q
+      turn i m l p x q = go (has_signed (vote_at s t i b)) refl q
         where
-          go : (v : Bool) → (vote_at s t i b).sent ≡ v → T (bit (cond v (bit_or m (2 ^ i)) m) x) → T ((view s K t).signed x b)
+          go : (v : Bool) → has_signed (vote_at s t i b) ≡ v → T (bit (cond v (bit_or m (2 ^ i)) m) x) → T ((view s K t).signed x b)
           go true e q = ⊎_elim (p x)
-              (λ y. subst (λ (w : ℕ). T ((view s K t).signed w b)) (sym (bit_other i x y)) (both (ltb i s.n) (vote_at s t i b).sent (lt→ltb i s.n l) (yes_T e)))
+              (λ y. subst (λ (w : ℕ). T ((view s K t).signed w b)) (sym (bit_other i x y)) (both (ltb i s.n) (has_signed (vote_at s t i b)) (lt→ltb i s.n l) (yes_T e)))
               (or_case (bit m x) (bit (2 ^ i) x) (subst T (bit-bit_or m (2 ^ i) x) q))
           go false e q = p x q
 
@@ -80,7 +80,7 @@ module _ {A : Type 0} (s : Setup) (K : Kind A) (P : Proper s) (idles : IdleFollo
 
       quorum : 2 ≤ block_round s b → s.quorum ≤ count s.n (bit m)
       quorum l = ⊎_elim (λ q. absurd (omega (arith, l, round_b, round_p, ap (block_round s) q)))
-          (λ q. omega (arith, q, count_set s.n m (λ y w. ltb→lt y s.n (both_l (ltb y s.n) (vote_at s t y p).sent (signers_signed t p y w))))) notarised
+          (λ q. omega (arith, q, count_set s.n m (λ y w. ltb→lt y s.n (both_l (ltb y s.n) (has_signed (vote_at s t y p)) (signers_signed t p y w))))) notarised
 
       st : Step (terms_of s) (view s K t) (view s K t1)
       st = making s K P t b p m x len_b (omega (arith, f.sized.records, f.sized.blocks, len_b)) fresh (parents s K P idles t f) (omega (arith, round_b)) made

@@ -72,7 +72,7 @@ abbrev two_of_three_received : List ReceivedRow
 two_of_three_received = record { held = true; signers = 0 } ∷ record { held = true; signers = 0 } ∷ record { held = true; signers = 0 } ∷ record { held = true; signers = 3 } ∷ record { held = true; signers = 3 } ∷ record { held = true; signers = 3 } ∷ nothing_received ∷ nothing_received ∷ nothing_received ∷ record { held = true; signers = 0 } ∷ record { held = true; signers = 0 } ∷ nothing_received ∷ nothing_received ∷ nothing_received ∷ nothing_received ∷ nothing_received ∷ nothing_received ∷ record { held = true; signers = 0 } ∷ nothing_received ∷ nothing_received ∷ record { held = true; signers = 4 } ∷ record { held = true; signers = 3 } ∷ record { held = true; signers = 3 } ∷ record { held = true; signers = 4 } ∷ nothing_received ∷ nothing_received ∷ nothing_received ∷ record { held = true; signers = 0 } ∷ record { held = true; signers = 0 } ∷ nothing_received ∷ nothing_received ∷ nothing_received ∷ nothing_received ∷ nothing_received ∷ nothing_received ∷ nothing_received ∷ nothing_received ∷ nothing_received ∷ record { held = true; signers = 0 } ∷ record { held = true; signers = 3 } ∷ record { held = true; signers = 3 } ∷ nothing_received ∷ nothing_received ∷ nothing_received ∷ nothing_received ∷ record { held = true; signers = 0 } ∷ record { held = true; signers = 0 } ∷ nothing_received ∷ nothing_received ∷ nothing_received ∷ nothing_received ∷ nothing_received ∷ nothing_received ∷ nothing_received ∷ nothing_received ∷ nothing_received ∷ nothing_received ∷ []
 
 abbrev two_of_three_votes : List VoteRow
-two_of_three_votes = no_vote ∷ no_vote ∷ no_vote ∷ record { sent = true; tick = 4 } ∷ record { sent = true; tick = 4 } ∷ no_vote ∷ no_vote ∷ no_vote ∷ no_vote ∷ no_vote ∷ no_vote ∷ no_vote ∷ no_vote ∷ no_vote ∷ no_vote ∷ no_vote ∷ no_vote ∷ no_vote ∷ no_vote ∷ no_vote ∷ record { sent = true; tick = 12 } ∷ record { sent = true; tick = 9 } ∷ record { sent = true; tick = 9 } ∷ record { sent = true; tick = 11 } ∷ no_vote ∷ no_vote ∷ no_vote ∷ no_vote ∷ no_vote ∷ no_vote ∷ no_vote ∷ no_vote ∷ no_vote ∷ no_vote ∷ no_vote ∷ no_vote ∷ no_vote ∷ no_vote ∷ no_vote ∷ record { sent = true; tick = 14 } ∷ record { sent = true; tick = 14 } ∷ no_vote ∷ no_vote ∷ no_vote ∷ no_vote ∷ no_vote ∷ no_vote ∷ no_vote ∷ no_vote ∷ no_vote ∷ no_vote ∷ no_vote ∷ no_vote ∷ no_vote ∷ no_vote ∷ no_vote ∷ no_vote ∷ []
+two_of_three_votes = no_vote ∷ no_vote ∷ no_vote ∷ record { sent = Some 4 } ∷ record { sent = Some 4 } ∷ no_vote ∷ no_vote ∷ no_vote ∷ no_vote ∷ no_vote ∷ no_vote ∷ no_vote ∷ no_vote ∷ no_vote ∷ no_vote ∷ no_vote ∷ no_vote ∷ no_vote ∷ no_vote ∷ no_vote ∷ record { sent = Some 12 } ∷ record { sent = Some 9 } ∷ record { sent = Some 9 } ∷ record { sent = Some 11 } ∷ no_vote ∷ no_vote ∷ no_vote ∷ no_vote ∷ no_vote ∷ no_vote ∷ no_vote ∷ no_vote ∷ no_vote ∷ no_vote ∷ no_vote ∷ no_vote ∷ no_vote ∷ no_vote ∷ no_vote ∷ record { sent = Some 14 } ∷ record { sent = Some 14 } ∷ no_vote ∷ no_vote ∷ no_vote ∷ no_vote ∷ no_vote ∷ no_vote ∷ no_vote ∷ no_vote ∷ no_vote ∷ no_vote ∷ no_vote ∷ no_vote ∷ no_vote ∷ no_vote ∷ no_vote ∷ no_vote ∷ []
 
 abbrev two_of_three_certificates : List CertificateRow
 two_of_three_certificates = record { block = 1; signers = 3; tick = 5 } ∷ record { block = 7; signers = 3; tick = 10 } ∷ record { block = 13; signers = 3; tick = 15 } ∷ record { block = 1; signers = 3; tick = 5 } ∷ record { block = 7; signers = 3; tick = 10 } ∷ record { block = 13; signers = 3; tick = 15 } ∷ no_certificate ∷ no_certificate ∷ no_certificate ∷ []
@@ -109,7 +109,7 @@ abbrev three_of_five_received : List ReceivedRow
 three_of_five_received = record { held = true; signers = 0 } ∷ record { held = true; signers = 0 } ∷ record { held = true; signers = 0 } ∷ record { held = true; signers = 0 } ∷ record { held = true; signers = 0 } ∷ record { held = true; signers = 13 } ∷ record { held = true; signers = 15 } ∷ record { held = true; signers = 13 } ∷ record { held = true; signers = 13 } ∷ record { held = true; signers = 13 } ∷ nothing_received ∷ record { held = true; signers = 2 } ∷ nothing_received ∷ nothing_received ∷ nothing_received ∷ record { held = true; signers = 0 } ∷ nothing_received ∷ record { held = true; signers = 0 } ∷ record { held = true; signers = 0 } ∷ record { held = true; signers = 16 } ∷ record { held = true; signers = 0 } ∷ nothing_received ∷ record { held = true; signers = 0 } ∷ record { held = true; signers = 0 } ∷ record { held = true; signers = 16 } ∷ nothing_received ∷ nothing_received ∷ nothing_received ∷ nothing_received ∷ record { held = true; signers = 16 } ∷ record { held = true; signers = 0 } ∷ nothing_received ∷ record { held = true; signers = 0 } ∷ record { held = true; signers = 0 } ∷ record { held = true; signers = 16 } ∷ nothing_received ∷ nothing_received ∷ nothing_received ∷ nothing_received ∷ nothing_received ∷ record { held = true; signers = 13 } ∷ record { held = true; signers = 15 } ∷ record { held = true; signers = 13 } ∷ record { held = true; signers = 13 } ∷ record { held = true; signers = 15 } ∷ record { held = true; signers = 0 } ∷ nothing_received ∷ record { held = true; signers = 0 } ∷ record { held = true; signers = 0 } ∷ nothing_received ∷ nothing_received ∷ record { held = true; signers = 2 } ∷ record { held = true; signers = 0 } ∷ nothing_received ∷ record { held = true; signers = 0 } ∷ record { held = true; signers = 13 } ∷ record { held = true; signers = 13 } ∷ record { held = true; signers = 13 } ∷ record { held = true; signers = 13 } ∷ nothing_received ∷ nothing_received ∷ nothing_received ∷ nothing_received ∷ nothing_received ∷ nothing_received ∷ record { held = true; signers = 0 } ∷ nothing_received ∷ record { held = true; signers = 0 } ∷ record { held = true; signers = 0 } ∷ nothing_received ∷ record { held = true; signers = 0 } ∷ nothing_received ∷ record { held = true; signers = 0 } ∷ record { held = true; signers = 0 } ∷ nothing_received ∷ nothing_received ∷ nothing_received ∷ nothing_received ∷ nothing_received ∷ record { held = true; signers = 0 } ∷ record { held = true; signers = 0 } ∷ nothing_received ∷ record { held = true; signers = 0 } ∷ record { held = true; signers = 0 } ∷ nothing_received ∷ nothing_received ∷ nothing_received ∷ nothing_received ∷ nothing_received ∷ nothing_received ∷ record { held = true; signers = 13 } ∷ record { held = true; signers = 2 } ∷ record { held = true; signers = 13 } ∷ record { held = true; signers = 13 } ∷ nothing_received ∷ record { held = true; signers = 0 } ∷ nothing_received ∷ record { held = true; signers = 0 } ∷ record { held = true; signers = 0 } ∷ nothing_received ∷ nothing_received ∷ nothing_received ∷ nothing_received ∷ nothing_received ∷ nothing_received ∷ []
 
 abbrev three_of_five_votes : List VoteRow
-three_of_five_votes = no_vote ∷ no_vote ∷ no_vote ∷ no_vote ∷ no_vote ∷ record { sent = true; tick = 2 } ∷ record { sent = true; tick = 27 } ∷ record { sent = true; tick = 2 } ∷ record { sent = true; tick = 2 } ∷ no_vote ∷ no_vote ∷ record { sent = true; tick = 4 } ∷ no_vote ∷ no_vote ∷ no_vote ∷ no_vote ∷ no_vote ∷ no_vote ∷ no_vote ∷ record { sent = true; tick = 6 } ∷ no_vote ∷ no_vote ∷ no_vote ∷ no_vote ∷ record { sent = true; tick = 15 } ∷ no_vote ∷ no_vote ∷ no_vote ∷ no_vote ∷ record { sent = true; tick = 1 } ∷ no_vote ∷ no_vote ∷ no_vote ∷ no_vote ∷ record { sent = true; tick = 17 } ∷ no_vote ∷ no_vote ∷ no_vote ∷ no_vote ∷ no_vote ∷ record { sent = true; tick = 4 } ∷ record { sent = true; tick = 4 } ∷ record { sent = true; tick = 4 } ∷ record { sent = true; tick = 4 } ∷ no_vote ∷ no_vote ∷ no_vote ∷ no_vote ∷ no_vote ∷ no_vote ∷ no_vote ∷ record { sent = true; tick = 8 } ∷ no_vote ∷ no_vote ∷ no_vote ∷ record { sent = true; tick = 6 } ∷ no_vote ∷ record { sent = true; tick = 6 } ∷ record { sent = true; tick = 6 } ∷ no_vote ∷ no_vote ∷ no_vote ∷ no_vote ∷ no_vote ∷ no_vote ∷ no_vote ∷ no_vote ∷ no_vote ∷ no_vote ∷ no_vote ∷ no_vote ∷ no_vote ∷ no_vote ∷ no_vote ∷ no_vote ∷ no_vote ∷ no_vote ∷ no_vote ∷ no_vote ∷ no_vote ∷ no_vote ∷ no_vote ∷ no_vote ∷ no_vote ∷ no_vote ∷ no_vote ∷ no_vote ∷ no_vote ∷ no_vote ∷ no_vote ∷ record { sent = true; tick = 8 } ∷ record { sent = true; tick = 8 } ∷ record { sent = true; tick = 8 } ∷ record { sent = true; tick = 8 } ∷ no_vote ∷ no_vote ∷ no_vote ∷ no_vote ∷ no_vote ∷ no_vote ∷ no_vote ∷ no_vote ∷ no_vote ∷ no_vote ∷ no_vote ∷ []
+three_of_five_votes = no_vote ∷ no_vote ∷ no_vote ∷ no_vote ∷ no_vote ∷ record { sent = Some 2 } ∷ record { sent = Some 27 } ∷ record { sent = Some 2 } ∷ record { sent = Some 2 } ∷ no_vote ∷ no_vote ∷ record { sent = Some 4 } ∷ no_vote ∷ no_vote ∷ no_vote ∷ no_vote ∷ no_vote ∷ no_vote ∷ no_vote ∷ record { sent = Some 6 } ∷ no_vote ∷ no_vote ∷ no_vote ∷ no_vote ∷ record { sent = Some 15 } ∷ no_vote ∷ no_vote ∷ no_vote ∷ no_vote ∷ record { sent = Some 1 } ∷ no_vote ∷ no_vote ∷ no_vote ∷ no_vote ∷ record { sent = Some 17 } ∷ no_vote ∷ no_vote ∷ no_vote ∷ no_vote ∷ no_vote ∷ record { sent = Some 4 } ∷ record { sent = Some 4 } ∷ record { sent = Some 4 } ∷ record { sent = Some 4 } ∷ no_vote ∷ no_vote ∷ no_vote ∷ no_vote ∷ no_vote ∷ no_vote ∷ no_vote ∷ record { sent = Some 8 } ∷ no_vote ∷ no_vote ∷ no_vote ∷ record { sent = Some 6 } ∷ no_vote ∷ record { sent = Some 6 } ∷ record { sent = Some 6 } ∷ no_vote ∷ no_vote ∷ no_vote ∷ no_vote ∷ no_vote ∷ no_vote ∷ no_vote ∷ no_vote ∷ no_vote ∷ no_vote ∷ no_vote ∷ no_vote ∷ no_vote ∷ no_vote ∷ no_vote ∷ no_vote ∷ no_vote ∷ no_vote ∷ no_vote ∷ no_vote ∷ no_vote ∷ no_vote ∷ no_vote ∷ no_vote ∷ no_vote ∷ no_vote ∷ no_vote ∷ no_vote ∷ no_vote ∷ no_vote ∷ no_vote ∷ record { sent = Some 8 } ∷ record { sent = Some 8 } ∷ record { sent = Some 8 } ∷ record { sent = Some 8 } ∷ no_vote ∷ no_vote ∷ no_vote ∷ no_vote ∷ no_vote ∷ no_vote ∷ no_vote ∷ no_vote ∷ no_vote ∷ no_vote ∷ no_vote ∷ []
 
 abbrev three_of_five_certificates : List CertificateRow
 three_of_five_certificates = record { block = 1; signers = 13; tick = 2 } ∷ record { block = 8; signers = 13; tick = 4 } ∷ record { block = 11; signers = 13; tick = 6 } ∷ record { block = 18; signers = 13; tick = 8 } ∷ no_certificate ∷ no_certificate ∷ no_certificate ∷ no_certificate ∷ record { block = 1; signers = 13; tick = 2 } ∷ record { block = 8; signers = 13; tick = 4 } ∷ record { block = 11; signers = 13; tick = 6 } ∷ record { block = 18; signers = 13; tick = 8 } ∷ record { block = 1; signers = 13; tick = 2 } ∷ record { block = 8; signers = 13; tick = 4 } ∷ record { block = 11; signers = 13; tick = 6 } ∷ record { block = 18; signers = 13; tick = 8 } ∷ no_certificate ∷ no_certificate ∷ no_certificate ∷ no_certificate ∷ []
@@ -146,7 +146,7 @@ abbrev three_honest_received : List ReceivedRow
 three_honest_received = record { held = true; signers = 0 } ∷ record { held = true; signers = 0 } ∷ record { held = true; signers = 0 } ∷ record { held = true; signers = 0 } ∷ record { held = true; signers = 0 } ∷ record { held = true; signers = 0 } ∷ record { held = true; signers = 7 } ∷ record { held = true; signers = 7 } ∷ record { held = true; signers = 7 } ∷ record { held = true; signers = 0 } ∷ record { held = true; signers = 0 } ∷ record { held = true; signers = 0 } ∷ record { held = true; signers = 0 } ∷ record { held = true; signers = 0 } ∷ record { held = true; signers = 0 } ∷ record { held = true; signers = 0 } ∷ record { held = true; signers = 0 } ∷ record { held = true; signers = 0 } ∷ record { held = true; signers = 7 } ∷ record { held = true; signers = 7 } ∷ record { held = true; signers = 7 } ∷ record { held = true; signers = 0 } ∷ nothing_received ∷ nothing_received ∷ nothing_received ∷ record { held = true; signers = 0 } ∷ nothing_received ∷ nothing_received ∷ nothing_received ∷ record { held = true; signers = 0 } ∷ nothing_received ∷ nothing_received ∷ nothing_received ∷ nothing_received ∷ nothing_received ∷ nothing_received ∷ nothing_received ∷ nothing_received ∷ nothing_received ∷ []
 
 abbrev three_honest_votes : List VoteRow
-three_honest_votes = no_vote ∷ no_vote ∷ no_vote ∷ no_vote ∷ no_vote ∷ no_vote ∷ record { sent = true; tick = 2 } ∷ record { sent = true; tick = 2 } ∷ record { sent = true; tick = 2 } ∷ no_vote ∷ no_vote ∷ no_vote ∷ no_vote ∷ no_vote ∷ no_vote ∷ no_vote ∷ no_vote ∷ no_vote ∷ record { sent = true; tick = 4 } ∷ record { sent = true; tick = 4 } ∷ record { sent = true; tick = 4 } ∷ no_vote ∷ no_vote ∷ no_vote ∷ no_vote ∷ no_vote ∷ no_vote ∷ no_vote ∷ no_vote ∷ no_vote ∷ no_vote ∷ no_vote ∷ no_vote ∷ no_vote ∷ no_vote ∷ no_vote ∷ no_vote ∷ no_vote ∷ no_vote ∷ []
+three_honest_votes = no_vote ∷ no_vote ∷ no_vote ∷ no_vote ∷ no_vote ∷ no_vote ∷ record { sent = Some 2 } ∷ record { sent = Some 2 } ∷ record { sent = Some 2 } ∷ no_vote ∷ no_vote ∷ no_vote ∷ no_vote ∷ no_vote ∷ no_vote ∷ no_vote ∷ no_vote ∷ no_vote ∷ record { sent = Some 4 } ∷ record { sent = Some 4 } ∷ record { sent = Some 4 } ∷ no_vote ∷ no_vote ∷ no_vote ∷ no_vote ∷ no_vote ∷ no_vote ∷ no_vote ∷ no_vote ∷ no_vote ∷ no_vote ∷ no_vote ∷ no_vote ∷ no_vote ∷ no_vote ∷ no_vote ∷ no_vote ∷ no_vote ∷ no_vote ∷ []
 
 abbrev three_honest_certificates : List CertificateRow
 three_honest_certificates = record { block = 2; signers = 3; tick = 2 } ∷ record { block = 6; signers = 3; tick = 4 } ∷ no_certificate ∷ no_certificate ∷ record { block = 2; signers = 3; tick = 2 } ∷ record { block = 6; signers = 3; tick = 4 } ∷ no_certificate ∷ no_certificate ∷ record { block = 2; signers = 5; tick = 2 } ∷ record { block = 6; signers = 5; tick = 4 } ∷ no_certificate ∷ no_certificate ∷ []

@@ -1,11 +1,11 @@
 -- Signing a block.
-use Rattle.std.proofs.Common.{ℕ, ◌+◌, ◌*◌, ◌^◌, ◌<◌, true, false, cond, T, ltb, length, set, sym, refl, subst, arith, ltb→lt, lt→ltb, length-set}
+use Rattle.std.proofs.Common.{ℕ, Some, ◌+◌, ◌*◌, ◌^◌, ◌<◌, false, cond, T, ltb, length, set, sym, refl, subst, arith, ltb→lt, lt→ltb, length-set}
 use Rattle.std.proofs.lemmas.List.{get_or-set_same}
 use Rattle.records.specs.Kind.{IdleFollows, Kind}
 use Rattle.rules.specs.declared.fault.BenchFault.TheVariants.{NoSuchBlock, NoSuchSeat, NothingNew, SeatIsHonest, TableLength}
 use Rattle.rules.specs.declared.rows.VoteRow.{VoteRow}
 use Rattle.rules.specs.Setup.{Setup, honest}
-use Rattle.rules.specs.Tables.{Tables, block_at, fits, no_vote, vote_at, with_votes}
+use Rattle.rules.specs.Tables.{Tables, block_at, fits, no_vote, vote_at, with_votes, has_signed}
 use Rattle.rules.specs.Holding.{receives, takes_in}
 use Rattle.rules.specs.Calls.{Outcome, done, refused, sign}
 use Rattle.laws.proofs.Sets.{bit_other}
@@ -23,20 +23,20 @@ use Rattle.laws.proofs.ByzantineActs.{outside}
 
 module _ {A : Type 0} (s : Setup) (K : Kind A) (P : Proper s) (idles : IdleFollows K) where
   -- a Byzantine seat signs
-  signs_settle : (t : Tables A) → Settled s K P idles t → (i b : ℕ) → i < s.n → (T (honest s i) → ⊥) → T (block_at t b).made → (T (vote_at s t i b).sent → ⊥)
-      → Settles s K P idles t (receives s (takes_in s (with_votes t (set t.votes (b * s.n + i) (record { sent = true; tick = t.clock })) t.received) i b) i b (2 ^ i))
+  signs_settle : (t : Tables A) → Settled s K P idles t → (i b : ℕ) → i < s.n → (T (honest s i) → ⊥) → T (block_at t b).made → (T (has_signed (vote_at s t i b)) → ⊥)
+      → Settles s K P idles t (receives s (takes_in s (with_votes t (set t.votes (b * s.n + i) (record { sent = Some t.clock })) t.received) i b) i b (2 ^ i))
   signs_settle t z i b li bad made fresh = outside s K P idles i t (receives s (takes_in s t1 i b) i b (2 ^ i)) z bad (acts_then s K P idles g1
       (hold_receive s K P idles i b (2 ^ i) t1 g1.sound li made (λ x q. subst (λ (y : ℕ). T ((view s K t1).signed y b)) (sym (bit_other i x q))
-      (both (ltb i s.n) (vote_at s t1 i b).sent (lt→ltb i s.n li) (subst (λ a. T a.sent) (sym (get_or-set_same t.votes (b * s.n + i) new no_vote len)) tt)))))
+      (both (ltb i s.n) (has_signed (vote_at s t1 i b)) (lt→ltb i s.n li) (subst (λ a. T (has_signed a)) (sym (get_or-set_same t.votes (b * s.n + i) new no_vote len)) tt)))))
     where
       f : Sound s K P idles t
       f = z.sound
 
       new : VoteRow
-      new = record { sent = true; tick = t.clock }
+      new = record { sent = Some t.clock }
 
       t1 : Tables A
-      t1 = with_votes t (set t.votes (b * s.n + i) (record { sent = true; tick = t.clock })) t.received
+      t1 = with_votes t (set t.votes (b * s.n + i) (record { sent = Some t.clock })) t.received
 
       len : b * s.n + i < length t.votes
       len = omega (arith, f.sized.votes, row_room s P b i (made_room s K P idles t f b made) li)
@@ -55,8 +55,8 @@ module _ {A : Type 0} (s : Setup) (K : Kind A) (P : Proper s) (idles : IdleFollo
   pub sign_settles : (i b : ℕ) (t : Tables A) → Settled s K P idles t → Settles s K P idles t (sign s K i b t).tables
   unfolding sign
   sign_settles i b t z =
-      let x5 = done (receives s (takes_in s (with_votes t (set t.votes (b * s.n + i) (record { sent = true; tick = t.clock })) t.received) i b) i b (2 ^ i)) in
-      let x4 = cond (vote_at s t i b).sent (refused NothingNew t) x5 in
+      let x5 = done (receives s (takes_in s (with_votes t (set t.votes (b * s.n + i) (record { sent = Some t.clock })) t.received) i b) i b (2 ^ i)) in
+      let x4 = cond (has_signed (vote_at s t i b)) (refused NothingNew t) x5 in
       let x3 = cond (cond (ltb 0 b) (block_at t b).made false) x4 (refused NoSuchBlock t) in
       let x2 = cond (fits s t) x3 (refused TableLength t) in
       let x1 = cond (honest s i) (refused SeatIsHonest t) x2 in
@@ -64,7 +64,7 @@ module _ {A : Type 0} (s : Setup) (K : Kind A) (P : Proper s) (idles : IdleFollo
       (λ l. either s K P idles Q (honest s i) (refused SeatIsHonest t) x2 (λ h. same s K P idles z)
       (λ h. either s K P idles Q (fits s t) x3 (refused TableLength t)
       (λ e. either s K P idles Q (cond (ltb 0 b) (block_at t b).made false) x4 (refused NoSuchBlock t)
-      (λ m. either s K P idles Q (vote_at s t i b).sent (refused NothingNew t) x5 (λ e. same s K P idles z)
+      (λ m. either s K P idles Q (has_signed (vote_at s t i b)) (refused NothingNew t) x5 (λ e. same s K P idles z)
       (λ v. signs_settle t z i b (ltb→lt i s.n (yes_T l)) (no_T h) (both_r (ltb 0 b) (block_at t b).made (yes_T m)) (no_T v)))
       (λ e. same s K P idles z)) (λ e. same s K P idles z))) (λ e. same s K P idles z)
     where

@@ -9,7 +9,7 @@ use Rattle.rules.specs.declared.rows.Phase.TheVariants.{Resting, Voting, Waiting
 use Rattle.rules.specs.Sets.{bit}
 use Rattle.rules.specs.Counting.{count}
 use Rattle.rules.specs.Setup.{Setup, block_round, block_rows, honest, own_block, round_start, round_width}
-use Rattle.rules.specs.Tables.{Tables, block_at, certificate_at, no_block, nothing_received, received_at, seat_at, vote_at}
+use Rattle.rules.specs.Tables.{Tables, block_at, certificate_at, no_block, nothing_received, received_at, seat_at, vote_at, has_signed}
 use Rattle.rules.specs.Holding.{holds_notarisation, lowest_notarised}
 use Rattle.rules.specs.Opening.{opened_tables}
 use Rattle.laws.proofs.View.{LawfulTerms, NotarisedAt, View}
@@ -114,7 +114,7 @@ module _ {A : Type 0} (s : Setup) (K : Kind A) (P : Proper s) (idles : IdleFollo
 
     -- how many signatures an honest seat has, by the row and by the seats
     pub ones_is : (i c : ℕ) → T (honest s i) → count s.n (bit (received_at s t i c).signers) ≡ ones (received_at s t i c).signers
-    ones_is i c h = count_set s.n (received_at s t i c).signers (λ x q. ltb→lt x s.n (both_l (ltb x s.n) (vote_at s t x c).sent (timing_of.received i c x h q).0))
+    ones_is i c h = count_set s.n (received_at s t i c).signers (λ x q. ltb→lt x s.n (both_l (ltb x s.n) (has_signed (vote_at s t x c)) (timing_of.received i c x h q).0))
 
     -- a notarisation, by the row and by the seats
     pub notarisation_in : (i c : ℕ) → T (honest s i) → T (holds_notarisation s t i c) → NotarisedAt (terms_of s) v i c

@@ -1,10 +1,5 @@
 -- Tests, and what they tell: `T b` says that the test b passes.
-use Rattle.std.proofs.Common.{◌≡◌, ℕ, Bool, true, false, cond, ◌||◌, T, ◌⊎◌, Some, None, Option, sym, refl, ap, subst, inl, inr}
-
--- a test is yes or no
-pub split : (b : Bool) → (b ≡ true) ⊎ (b ≡ false)
-split true = inl refl
-split false = inr refl
+use Rattle.std.proofs.Common.{◌≡◌, Bool, true, false, cond, ◌||◌, T, ◌⊎◌, sym, refl, subst, inl, inr}
 
 -- by equations and by T
 pub yes_T : {b : Bool} → b ≡ true → T b
@@ -50,18 +45,3 @@ or_r false b t = t
 pub or_case : (a b : Bool) → T (a || b) → T a ⊎ T b
 or_case true b t = inl tt
 or_case false b t = inr t
-
--- what a search has found is one thing
-pub none_ne_some : {x : ℕ} → None ≡ Some x → ⊥
-none_ne_some e = subst IsNone e tt
-  where
-    IsNone : Option ℕ → Type 0
-    IsNone None = Unit {0}
-    IsNone (Some y) = ⊥
-
-pub some_one : (x y : ℕ) → Some x ≡ Some y → x ≡ y
-some_one x y e = ap get e
-  where
-    get : Option ℕ → ℕ
-    get None = 0
-    get (Some z) = z

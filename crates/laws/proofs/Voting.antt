@@ -1,12 +1,12 @@
 -- All votes of one reaction are one step: a loop that writes, for each block chosen, the vote and the own signature.
-use Rattle.std.proofs.Common.{◌≡◌, ℕ, zero, suc, ◌+◌, ◌-◌, ◌*◌, ◌^◌, ◌<◌, ◌≤◌, Bool, true, false, cond, T, ltb, ◌⊎◌, length, get_or, set, sym, refl, ap, ◌∙◌, subst, ⊎_elim, le_refl, arith, lt→ltb}
+use Rattle.std.proofs.Common.{◌≡◌, ℕ, Some, None, is_some, unwrap_or, zero, suc, ◌+◌, ◌-◌, ◌*◌, ◌^◌, ◌<◌, ◌≤◌, Bool, true, false, cond, T, ltb, ◌⊎◌, length, get_or, set, sym, refl, ap, ◌∙◌, subst, ⊎_elim, le_refl, arith, lt→ltb}
 use Rattle.records.specs.Kind.{Kind}
 use Rattle.rules.specs.declared.rows.VoteRow.{VoteRow}
 use Rattle.rules.specs.Loops.{upto, writes}
 use Rattle.rules.specs.Sets.{bit}
 use Rattle.rules.specs.Setup.{Setup, block_round, block_rows, round_start, round_width}
 use Rattle.rules.specs.Ranks.{rank}
-use Rattle.rules.specs.Tables.{Tables, no_vote, nothing_received, received_at, valid, with_votes}
+use Rattle.rules.specs.Tables.{Tables, no_vote, nothing_received, received_at, valid, with_votes, has_signed, signing_tick}
 use Rattle.rules.specs.Holding.{receive_row}
 use Rattle.rules.specs.VotingChoice.{holds_valid, voting_choice}
 use Rattle.rules.specs.Seat.{vote_at_rank, vote_for, vote_row}
@@ -14,7 +14,7 @@ use Rattle.laws.proofs.Sets.{bit-bit_or, bit_other}
 use Rattle.laws.proofs.View.{NotarisedAt, Terms, View}
 use Rattle.laws.proofs.Discipline.{Step, Votes}
 use Rattle.laws.proofs.Moves.{messages_step}
-use Rattle.laws.proofs.Tests.{T_yes, both, both_l, both_r, or_case, or_l, yes_T}
+use Rattle.laws.proofs.Tests.{both, both_l, both_r, or_case, or_l}
 use Rattle.laws.proofs.Rows.{row_one}
 use Rattle.laws.proofs.Writes.{writes_cases, writes_done, writes_keep, writes_length}
 use Rattle.laws.proofs.BenchView.{Proper, terms_of, view}
@@ -22,22 +22,13 @@ use Rattle.laws.proofs.Numbering.{in_round, round_in, round_room, row_room}
 use Rattle.laws.proofs.Seats.{few, honest_below}
 use Rattle.laws.proofs.VotingChoice.{choice_held, choice_same}
 
-vote_kept : (clock : ℕ) (a : VoteRow) → T a.sent → vote_row clock a ≡ a
-vote_kept clock a t = ap (λ q. cond q a (record { sent = true; tick = clock })) (T_yes a.sent t)
+-- a signed row stays ..
+vote_kept : (clock : ℕ) (a : VoteRow) → T (has_signed a) → vote_row clock a ≡ a
+vote_kept clock a = elim a.sent as (λ x. T (is_some x) → vote_row clock (record { sent = x }) ≡ record { sent = x }) [ Some x ↦ λ t. refl | None ↦ λ t. absurd t ]
 
-vote_done : (clock : ℕ) (a : VoteRow) → T (vote_row clock a).sent
-vote_done clock a = go a.sent refl
-  where
-    go : (q : Bool) → a.sent ≡ q → T (cond q a (record { sent = true; tick = clock })).sent
-    go true e = yes_T e
-    go false e = tt
-
-vote_new : (clock : ℕ) (a : VoteRow) → (T a.sent → ⊥) → (vote_row clock a).tick ≡ clock
-vote_new clock a n = go a.sent refl
-  where
-    go : (q : Bool) → a.sent ≡ q → (cond q a (record { sent = true; tick = clock })).tick ≡ clock
-    go true e = absurd (n (yes_T e))
-    go false e = refl
+-- .. and any other gets this tick
+vote_new : (clock : ℕ) (a : VoteRow) → (T (has_signed a) → ⊥) → signing_tick (vote_row clock a) ≡ clock
+vote_new clock a = elim a.sent as (λ x. (T (is_some x) → ⊥) → unwrap_or x clock ≡ clock) [ Some x ↦ λ n. absurd (n tt) | None ↦ λ n. refl ]
 
 module _ {A : Type 0} (s : Setup) (K : Kind A) (P : Proper s) (t : Tables A) (i r low : ℕ) (li : i < s.n) (top : suc r ≤ s.rounds)
     (len_v : length t.votes ≡ block_rows s * s.n) (len_h : length t.received ≡ block_rows s * s.n) where
@@ -74,10 +65,10 @@ module _ {A : Type 0} (s : Setup) (K : Kind A) (P : Proper s) (t : Tables A) (i 
   unfolding voted
   received_case y = writes_cases chosen rows (receive_row (2 ^ i)) nothing_received t.received apart (round_width s) (λ x l q. omega (arith, len_h, room x l q)) y
 
-  sent_at : (x : ℕ) → x < round_width s → T (chosen x) → T (get_or voted.votes (rows x) no_vote).sent
+  sent_at : (x : ℕ) → x < round_width s → T (chosen x) → T (has_signed (get_or voted.votes (rows x) no_vote))
   unfolding voted
-  sent_at x l q = subst (λ y. T y.sent) (sym (writes_done chosen rows (vote_row t.clock) no_vote t.votes apart (round_width s)
-      (λ x l q. omega (arith, len_v, room x l q)) x l q)) (vote_done t.clock (get_or t.votes (rows x) no_vote))
+  sent_at x l q = subst (λ y. T (has_signed y)) (sym (writes_done chosen rows (vote_row t.clock) no_vote t.votes apart (round_width s)
+      (λ x l q. omega (arith, len_v, room x l q)) x l q)) tt
 
   -- the tables keep their lengths
   pub votes_size : length voted.votes ≡ length t.votes
@@ -102,8 +93,8 @@ module _ {A : Type 0} (s : Setup) (K : Kind A) (P : Proper s) (t : Tables A) (i 
       let o = in_round s P r c e in
       let x = c - start in
       let f : start + x ≡ c = omega (arith, o.0) in
-      both (ltb i s.n) (get_or voted.votes (c * s.n + i) no_vote).sent (lt→ltb i s.n li)
-      (subst (λ (y : ℕ). T (get_or voted.votes (y * s.n + i) no_vote).sent) f
+      both (ltb i s.n) (has_signed (get_or voted.votes (c * s.n + i) no_vote)) (lt→ltb i s.n li)
+      (subst (λ (y : ℕ). T (has_signed (get_or voted.votes (y * s.n + i) no_vote))) f
       (sent_at x (omega (arith, o.1, o.0)) (subst (λ y. T (voting_choice s K t i low y)) (sym f) g)))
 
   abbrev k : Terms
@@ -123,7 +114,7 @@ module _ {A : Type 0} (s : Setup) (K : Kind A) (P : Proper s) (t : Tables A) (i 
     abbrev w : Tables A
     w = with_votes t voted.votes voted.received
 
-    on_vote : (y : ℕ) → T (get_or t.votes y no_vote).sent → get_or voted.votes y no_vote ≡ get_or t.votes y no_vote
+    on_vote : (y : ℕ) → T (has_signed (get_or t.votes y no_vote)) → get_or voted.votes y no_vote ≡ get_or t.votes y no_vote
     on_vote y q = ⊎_elim (λ e. e) (λ u. u.4 ∙ vote_kept t.clock (get_or t.votes y no_vote) q) (vote_case y)
 
     received_stays : (y x : ℕ) → T (bit (get_or t.received y nothing_received).signers x) → T (bit (get_or voted.received y nothing_received).signers x)
@@ -144,16 +135,16 @@ module _ {A : Type 0} (s : Setup) (K : Kind A) (P : Proper s) (t : Tables A) (i 
 
     signed_here : (j c : ℕ) → (h : Chosen j c) → T ((see w).signed j c)
     signed_here j c h = subst (λ (y : ℕ). T ((see w).signed y c)) (sym h.seat) (subst (λ (y : ℕ). T ((see w).signed i y)) (sym h.block)
-        (both (ltb i s.n) (get_or voted.votes (rows h.x) no_vote).sent (lt→ltb i s.n li) (sent_at h.x h.below h.passes)))
+        (both (ltb i s.n) (has_signed (get_or voted.votes (rows h.x) no_vote)) (lt→ltb i s.n li) (sent_at h.x h.below h.passes)))
 
     held_here : (c : ℕ) → (h : Chosen i c) → T (holds_valid s K t i c)
     held_here c h = subst (λ y. T (holds_valid s K t i y)) (sym h.block) (choice_held s K t i low (start + h.x) h.passes)
 
-    votes : (j c : ℕ) → (h : Chosen j c) → (get_or voted.votes (c * s.n + j) no_vote).tick ≡ t.clock → Votes k (see t) (see w) j c
+    votes : (j c : ℕ) → (h : Chosen j c) → signing_tick (get_or voted.votes (c * s.n + j) no_vote) ≡ t.clock → Votes k (see t) (see w) j c
     votes j c h now = subst (λ y. Votes k (see t) (see w) y c) (sym h.seat) (record {
       still = refl;
       here = refl;
-      tick = subst (λ (y : ℕ). (get_or voted.votes (c * s.n + y) no_vote).tick ≡ t.clock) h.seat now;
+      tick = subst (λ (y : ℕ). (signing_tick (get_or voted.votes (c * s.n + y) no_vote)) ≡ t.clock) h.seat now;
       this_round = round_is ∙ sym at_r;
       over = over;
       holds = both_l (received_at s t i c).held (valid K t c) g;
@@ -176,17 +167,17 @@ module _ {A : Type 0} (s : Setup) (K : Kind A) (P : Proper s) (t : Tables A) (i 
 
     step_w : Step k (see t) (see w)
     step_w = messages_step k (see t) (see w).signed (see w).signed_at (see w).held (see w).received (few s P) (record {
-      signed_stays = λ j c q. both (ltb j s.n) (get_or voted.votes (c * s.n + j) no_vote).sent (both_l (ltb j s.n) (get_or t.votes (c * s.n + j) no_vote).sent q)
-          (let q' = both_r (ltb j s.n) (get_or t.votes (c * s.n + j) no_vote).sent q in subst (λ a. T a.sent) (sym (on_vote (c * s.n + j) q')) q');
-      signed_at_same = λ j c q. ap (λ a. a.tick) (on_vote (c * s.n + j) (both_r (ltb j s.n) (get_or t.votes (c * s.n + j) no_vote).sent q));
+      signed_stays = λ j c q. both (ltb j s.n) (has_signed (get_or voted.votes (c * s.n + j) no_vote)) (both_l (ltb j s.n) (has_signed (get_or t.votes (c * s.n + j) no_vote)) q)
+          (let q' = both_r (ltb j s.n) (has_signed (get_or t.votes (c * s.n + j) no_vote)) q in subst (λ a. T (has_signed a)) (sym (on_vote (c * s.n + j) q')) q');
+      signed_at_same = λ j c q. ap (λ a. signing_tick a) (on_vote (c * s.n + j) (both_r (ltb j s.n) (has_signed (get_or t.votes (c * s.n + j) no_vote)) q));
       held_stays = λ j c q. subst T (sym (held_same (c * s.n + j))) q;
       received_stays = λ j c x q. received_stays (c * s.n + j) x q;
       votes = λ j c h q no_q. ⊎_elim
-          (λ e. absurd (no_q (both (ltb j s.n) (get_or t.votes (c * s.n + j) no_vote).sent (both_l (ltb j s.n) (get_or voted.votes (c * s.n + j) no_vote).sent q)
-          (subst (λ a. T a.sent) e (both_r (ltb j s.n) (get_or voted.votes (c * s.n + j) no_vote).sent q)))))
+          (λ e. absurd (no_q (both (ltb j s.n) (has_signed (get_or t.votes (c * s.n + j) no_vote)) (both_l (ltb j s.n) (has_signed (get_or voted.votes (c * s.n + j) no_vote)) q)
+          (subst (λ a. T (has_signed a)) e (both_r (ltb j s.n) (has_signed (get_or voted.votes (c * s.n + j) no_vote)) q)))))
           (λ u. votes j c (chosen_of j c (honest_below s j h) (u.0, u.1, u.2, u.3))
-          (ap (λ a. a.tick) u.4 ∙ vote_new t.clock (get_or t.votes (c * s.n + j) no_vote)
-          (λ z. no_q (both (ltb j s.n) (get_or t.votes (c * s.n + j) no_vote).sent (both_l (ltb j s.n) (get_or voted.votes (c * s.n + j) no_vote).sent q) z))))
+          (ap (λ a. signing_tick a) u.4 ∙ vote_new t.clock (get_or t.votes (c * s.n + j) no_vote)
+          (λ z. no_q (both (ltb j s.n) (has_signed (get_or t.votes (c * s.n + j) no_vote)) (both_l (ltb j s.n) (has_signed (get_or voted.votes (c * s.n + j) no_vote)) q) z))))
           (vote_case (c * s.n + j));
       gets = λ j c h q no_q. absurd (no_q (subst T (held_same (c * s.n + j)) q));
       receives = λ j c x h q no_q. ⊎_elim

@@ -11,7 +11,7 @@ use Rattle.rules.specs.declared.rows.Phase.TheVariants.{Waiting}
 use Rattle.rules.specs.Chains.{ancestor}
 use Rattle.rules.specs.Counting.{count}
 use Rattle.rules.specs.Setup.{Bench}
-use Rattle.rules.specs.Tables.{Tables, setup_at, block_at, seat_at, vote_at, entered_at, valid}
+use Rattle.rules.specs.Tables.{Tables, setup_at, block_at, seat_at, vote_at, entered_at, valid, has_signed}
 use Rattle.rules.specs.Opening.{bench_of, open_answer, opened}
 use Rattle.rules.specs.Runs.{Call, call, after}
 
@@ -45,7 +45,7 @@ module _ {A : Type 0} (b : Bench) (t : Tables A) where
 
   -- Block c is notarised: a quorum of the seats has signed it.
   abbrev pub Notarised : ℕ → Type 0
-  Notarised c = b.quorum ≤ count b.n (λ i. (vote_at (setup_at b t) t i c).sent)
+  Notarised c = b.quorum ≤ count b.n (λ i. has_signed (vote_at (setup_at b t) t i c))
 
   -- The wait of seat i in round r is over: the seat is past r, or in r and no longer waiting.
   abbrev pub WaitOver : ℕ → ℕ → Type 0

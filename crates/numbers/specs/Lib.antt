@@ -1,2 +1,3 @@
 pub mod Quorum
 pub mod Numbering
+pub mod Sets

@@ -6,6 +6,7 @@ ghost use Rattle.numbers.specs.Quorum.{majority_of, most_byzantine_of, weight_of
 
 pub mod block_id;
 pub mod limits;
+pub mod seat_set;
 pub mod size;
 
 /// The majority of n seats: this many signatures notarise a block.

@@ -24,10 +24,10 @@ impl Size {
     pub fn new(n: u8, rounds: u16, editions: u8) -> Option<Size>
         ensures { MatchOption result (within_limits n rounds editions ≡ false) (λ z. (within_limits n rounds editions ≡ true) × (z.n ≡ n) × (z.rounds ≡ rounds) × (z.editions ≡ editions)) }
     {
-        if n == 0 || n > MOST_SEATS || rounds == 0 || rounds > MOST_ROUNDS {
-            return None;
-        }
-        if editions == 0 || editions > MOST_EDITIONS {
+        let within = (1..=MOST_SEATS).contains(&n)
+            && (1..=MOST_ROUNDS).contains(&rounds)
+            && (1..=MOST_EDITIONS).contains(&editions);
+        if !within {
             return None;
         }
         Some(Size {
@@ -48,10 +48,10 @@ impl Size {
     pub fn number_of(&self, id: BlockId) -> Option<u32>
         ensures { result ≡ number_answer self.now.n self.now.rounds self.now.editions id }
     {
-        if id.round == 0 || id.round > self.rounds {
-            return None;
-        }
-        if id.owner >= self.n || id.edition >= self.editions {
+        let exists = (1..=self.rounds).contains(&id.round)
+            && id.owner < self.n
+            && id.edition < self.editions;
+        if !exists {
             return None;
         }
         let before = (id.round as u32 - 1) * self.n as u32 + id.owner as u32;
@@ -74,19 +74,13 @@ impl Size {
     }
 }
 
-// A number leads back to its block, and a block to its number.
-fn each_leads_back()
-    ensures number_leads_back { NumberLeadsBack }
-    ensures id_leads_back { IdLeadsBack }
-{}
-
 /// On every size there is one number for each block, and one block for each number: each leads back to the other. Answers
 /// whether that is proved, which it is.
+#[tactic(auto, using(crate::proofs::Numbers::number_leads_back, crate::proofs::Numbers::id_leads_back))]
 pub fn numbering_is_one_to_one() -> bool
     ensures proved { result ≡ true }
     ensures number_leads_back { NumberLeadsBack }
     ensures id_leads_back { IdLeadsBack }
 {
-    each_leads_back();
     true
 }

@@ -18,6 +18,7 @@ use terms::terms::Terms;
 
 /// Opens a bench on the tables that the caller lends: fills them, and gives the numbers of the bench, with its clock at 0.
 /// A refusal leaves the tables as they were.
+// Roster, plan and beacon are apart: only an opening takes them, and what follows it takes `Terms`.
 pub fn open_tables<R: Record, B: Beacon>(
     roster: &Roster,
     plan: Plan,

@@ -1,6 +1,6 @@
 -- Orders: the same ranks are the same order, and each rank has its seat.
-use Rattle.std.proofs.Common.{◌≡◌, ℕ, zero, suc, ◌<◌, ◌≤◌, ◌≢◌, List, get_or, sym, ap, ◌∙◌, ⊎_elim, arith}
-use Rattle.std.proofs.lemmas.Bool.{cases_lt, cases_eq, eq-eqb, ne_eqb}
+use Rattle.std.proofs.Common.{◌≡◌, ℕ, zero, suc, ◌+◌, ◌<◌, ◌≤◌, ◌≢◌, List, length, get_or, set, refl, sym, ap, ◌∙◌, ⊎_elim, arith, get_or-set_other, get_or-set_same, below_more}
+use Rattle.std.proofs.lemmas.Bool.{cases_eq, eq-eqb, ne_eqb}
 use Rattle.orders.specs.Ranking.{Order, seat_of_rank}
 
 -- equal ranks are an order too
@@ -27,12 +27,17 @@ seat_of_rank_found (suc k) rank m s h e =
 pub order_seat : (n : ℕ) (rank : ℕ → ℕ) → Order n rank → (m : ℕ) → m < n → (seat_of_rank n rank m < n) × (rank (seat_of_rank n rank m) ≡ m)
 order_seat n rank o m h = let w = o.every m h in seat_of_rank_found n rank m w.0 w.1 w.2
 
--- a search in a row of the ranks finds the seat of each rank
-pub found_seat : (n : ℕ) (rank : ℕ → ℕ) (k r : ℕ) (row : List ℕ) → Order n rank → k < n → ((s : ℕ) → s < n → get_or row s 0 ≡ rank s)
-    → r ≤ n → ((j : ℕ) → j < r → get_or row j 0 ≡ k → ⊥) → (r < n → get_or row r 0 ≡ k) → r ≡ seat_of_rank n rank k
-found_seat n rank k r row o h is within before found =
-    let seat = order_seat n rank o k h in
-    ⊎_elim
-    (λ (lt : r < n). o.one r (seat_of_rank n rank k) lt seat.0 (sym (is r lt) ∙ found lt ∙ sym seat.1))
-    (λ (ge : n ≤ r). absurd (before (seat_of_rank n rank k) (omega (arith, seat.0)) (is (seat_of_rank n rank k) seat.0 ∙ seat.1)))
-    (cases_lt r n)
+-- a row in which each seat is to stand at its rank: one seat more
+pub placed_more : (n : ℕ) (rank : ℕ → ℕ) (row : List ℕ) (seat : ℕ) → Order n rank → n ≤ length row → seat < n
+    → ((s : ℕ) → s < seat → get_or row (rank s) 0 ≡ s) → (s : ℕ) → s < seat + 1 → get_or (set row (rank seat) seat) (rank s) 0 ≡ s
+placed_more n rank row seat o long h before =
+    let room : rank seat < length row = omega (arith, o.below seat h) in
+    below_more _ _
+    (λ s l. let ne : rank s ≢ rank seat = λ e. let same = o.one s seat (omega arith) h e in omega arith in rw get_or-set_other (before s l))
+    (rw get_or-set_same refl)
+
+-- past the last rank nothing is written
+pub placed_past : (n : ℕ) (rank : ℕ → ℕ) (row : List ℕ) (seat : ℕ) → Order n rank → seat < n
+    → ((j : ℕ) → n ≤ j → get_or row j 0 ≡ 0) → (j : ℕ) → n ≤ j → get_or (set row (rank seat) seat) j 0 ≡ 0
+placed_past n rank row seat o h rest j le =
+    let ne : j ≢ rank seat = λ e. let low = o.below seat h in omega arith in rw get_or-set_other (rest j le)

@@ -3,7 +3,7 @@ use Rattle.std.proofs.Common.{◌≡◌, ℕ, zero, suc, ◌<◌, Bool, true, fa
 use Rattle.std.proofs.lemmas.Bool.{cases_eq}
 use Rattle.rules.specs.Loops.{any}
 use Rattle.rules.specs.Setup.{Setup, honest, block_round, block_owner, block_rows}
-use Rattle.rules.specs.Tables.{Tables, block_at, vote_at, certificate_at, entered_at}
+use Rattle.rules.specs.Tables.{Tables, has_signed, signing_tick, block_at, vote_at, certificate_at, entered_at}
 use Rattle.rules.specs.Holding.{has_vote, has_certificate}
 use Rattle.rules.specs.Overdue.{late, lacks_block, certificate_sent, block_overdue, vote_overdue, certificate_overdue, overdue}
 use Rattle.overdue.specs.Messages.{block_late, vote_late, certificate_late, block_lacking, vote_lacking, certificate_lacking}
@@ -59,7 +59,7 @@ module _ {A : Type 0} (s : Setup) (t : Tables A) where
   block_is b = three (block_at t b).made (honest s (block_owner s b)) (late s t (entered_at s t (block_owner s b) (block_round s b))) (any (lacks_block s t b) s.n)
 
   vote_is : (b i : ℕ) → late_vote s t b i ≡ vote_overdue s t b i
-  vote_is b i = three (vote_at s t i b).sent (honest s i) (late s t (vote_at s t i b).tick) (any (λ j. cond (honest s j) (not (has_vote s t i b j)) false) s.n)
+  vote_is b i = three (has_signed (vote_at s t i b)) (honest s i) (late s t (signing_tick (vote_at s t i b))) (any (λ j. cond (honest s j) (not (has_vote s t i b j)) false) s.n)
 
   certificate_is : (i r : ℕ) → late_certificate s t i r ≡ certificate_overdue s t i r
   certificate_is i r = two (certificate_sent s t i r) (late s t (certificate_at s t i (suc r)).tick) (any (λ j. cond (honest s j) (not (has_certificate s t (certificate_at s t i (suc r)).block (certificate_at s t i (suc r)).signers j)) false) s.n)

@@ -1,7 +1,7 @@
 -- The messages of honest seats that are late at the next tick, and the honest seats that lack part of one.
 use Rattle.std.specs.Prelude.{ℕ, suc, Bool, false, cond, not}
 use Rattle.rules.specs.Setup.{Setup, honest, block_round, block_owner}
-use Rattle.rules.specs.Tables.{Tables, block_at, vote_at, certificate_at, entered_at}
+use Rattle.rules.specs.Tables.{Tables, has_signed, signing_tick, block_at, vote_at, certificate_at, entered_at}
 use Rattle.rules.specs.Holding.{has_vote, has_certificate}
 use Rattle.rules.specs.Overdue.{late, lacks_block, certificate_sent}
 
@@ -17,7 +17,7 @@ module _ {A : Type 0} (s : Setup) where
 
   -- the vote of seat i for block b
   abbrev pub vote_late : Tables A → ℕ → ℕ → Bool
-  vote_late t b i = cond (vote_at s t i b).sent (cond (honest s i) (late s t (vote_at s t i b).tick) false) false
+  vote_late t b i = cond (has_signed (vote_at s t i b)) (cond (honest s i) (late s t (signing_tick (vote_at s t i b))) false) false
 
   abbrev pub vote_lacking : Tables A → ℕ → ℕ → ℕ → Bool
   vote_lacking t b i j = cond (honest s j) (not (has_vote s t i b j)) false

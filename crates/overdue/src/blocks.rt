@@ -6,7 +6,6 @@ ghost use Rattle.overdue.specs.Messages.{block_late, block_lacking};
 use crate::clock::is_late;
 use records::Record;
 use tables::lent::Tables;
-use tables::reads::{block_row, entered_at, is_held};
 use terms::terms::Terms;
 
 // Whether a block is an honest seat's, and has to have arrived by the next tick.
@@ -15,14 +14,14 @@ pub(crate) fn block_late<R: Record>(terms: Terms, t: &Tables<R>, block: u32) -> 
 {
     let owner = terms.owner_of(block);
     let round = terms.round_of(block);
-    block_row(t, block).made
+    t.block_row(block).made
         && terms.is_honest(owner)
-        && is_late(terms, entered_at(terms, t, owner, round))
+        && is_late(terms, t.entered_at(terms, owner, round))
 }
 
 // Whether a seat is honest and does not hold a block.
 pub(crate) fn lacks_block<R: Record>(terms: Terms, t: &Tables<R>, block: u32, seat: u8) -> bool
     ensures { result ≡ block_lacking (setup_of terms t.now) (view terms t.now) block seat }
 {
-    terms.is_honest(seat) && !is_held(terms, t, seat, block)
+    terms.is_honest(seat) && !t.is_held(terms, seat, block)
 }

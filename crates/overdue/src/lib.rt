@@ -19,10 +19,13 @@ use terms::terms::Terms;
 
 /// Whether some message of an honest seat would be overdue at the next tick: it is late, and some honest seat lacks part
 /// of it. Blocks are searched first, then votes, then certificates.
+#[tactic(auto, using(tables::proofs::Loops::any_none, tables::proofs::Loops::any_more))]
 pub fn some_overdue<R: Record>(terms: Terms, t: &Tables<R>) -> bool
     ensures { result ≡ overdue (setup_of terms t.now) (view terms t.now) }
 {
     let blocks = terms.block_rows() as u32;
+    // Labelled loops and no chain, as is the rule for this search: it is one block, which the first message found overdue leaves
+    // with the answer.
     'search: {
         'made: for block in 0..blocks {
             if block_late(terms, t, block) {

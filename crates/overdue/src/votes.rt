@@ -7,15 +7,15 @@ use crate::clock::is_late;
 use holding::messages::has_vote;
 use records::Record;
 use tables::lent::Tables;
-use tables::reads::vote_row;
 use terms::terms::Terms;
 
 // Whether a voter is honest, and its vote for a block has to have arrived by the next tick.
 pub(crate) fn vote_late<R: Record>(terms: Terms, t: &Tables<R>, block: u32, voter: u8) -> bool
     ensures { result ≡ vote_late (setup_of terms t.now) (view terms t.now) block voter }
 {
-    let row = vote_row(terms, t, voter, block);
-    row.sent && terms.is_honest(voter) && is_late(terms, row.tick)
+    t.vote_row(terms, voter, block)
+        .sent
+        .is_some_and(|tick| terms.is_honest(voter) && is_late(terms, tick))
 }
 
 // Whether a seat is honest and lacks part of what a voter's vote for a block says.

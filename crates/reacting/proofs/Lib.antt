@@ -1,3 +1,3 @@
-pub mod BlocksOfRound
+pub mod ByOrder
 pub mod PartsJoined
 pub mod PastTheRounds

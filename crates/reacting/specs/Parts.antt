@@ -1,24 +1,15 @@
--- Proposing, leaving and reacting in the parts that the code has.
-use Rattle.std.specs.Prelude.{ℕ, ◌+◌, ◌-◌, true, cond, nat_le}
+-- Proposing, leaving and reacting in parts: those that the code has, and those that its proofs go by.
+use Rattle.std.specs.Prelude.{ℕ, ◌+◌, ◌-◌, cond, nat_le, nat_lt}
 use Rattle.records.specs.Kind.{Kind}
 use Rattle.rules.specs.declared.rows.Phase.{Phase}
 use Rattle.rules.specs.declared.rows.Phase.TheVariants.{Waiting, Voting, Resting}
-use Rattle.rules.specs.Setup.{Setup, own_block}
-use Rattle.rules.specs.Tables.{Tables, record_at, draft_at, seat_at, received_at}
-use Rattle.rules.specs.Holding.{takes_in, lowest_notarised}
+use Rattle.rules.specs.Setup.{Setup}
+use Rattle.rules.specs.Tables.{Tables, seat_at, received_at}
+use Rattle.rules.specs.Holding.{lowest_notarised}
 use Rattle.rules.specs.ParentChoice.{parent_choice}
-use Rattle.rules.specs.Seat.{proposed_record, draft_left, propose, moves_on, vote, leave_by, react_in}
-use Rattle.writing.specs.Writes.{with_block_row, with_record, with_draft}
+use Rattle.rules.specs.Seat.{propose, moves_on, vote, leave_by, react_in}
 
 module _ {A : Type 0} (s : Setup) (K : Kind A) where
-  -- a proposal, write by write
-  abbrev pub proposal_written : Tables A → ℕ → ℕ → ℕ → Tables A
-  proposal_written t i r p =
-      let own = own_block s i r in
-      let drafted = with_draft t i (draft_left K (draft_at t i) (record_at K t p)) in
-      let made = with_block_row drafted own (record { made = true; parent = p; carried = (received_at s t i p).signers }) in
-      takes_in s (with_record made own (proposed_record K (draft_at t i) (record_at K t p))) i own
-
   -- seat i, which leaves round r + 1 by block c, has proposed for round r + 2, unless that is past the last
   abbrev pub proposed : Tables A → ℕ → ℕ → ℕ → Tables A
   proposed t i r c = cond (nat_le (r + 2) s.rounds) (propose s K t i (r + 2) (parent_choice s t i (r + 1) c)) t
@@ -46,3 +37,7 @@ module _ {A : Type 0} (s : Setup) (K : Kind A) where
   -- last round holds no block of its round, so that its reaction changes nothing.
   unfoldable pub reacts : Tables A → ℕ → Tables A
   reacts t i = reacted t i
+
+  -- The same for any number: one that is no seat of the bench does nothing.
+  abbrev pub seat_reacts : Tables A → ℕ → Tables A
+  seat_reacts t i = cond (nat_lt i s.n) (reacts t i) t

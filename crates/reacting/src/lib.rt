@@ -3,7 +3,7 @@
 
 pub mod choice;
 mod departure;
-pub mod members;
 mod proposal;
 pub mod reaction;
+mod voter;
 mod votes;

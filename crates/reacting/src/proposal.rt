@@ -2,13 +2,11 @@
 ghost use Rattle.std.specs.Prelude.{◌≡◌};
 ghost use Rattle.rules.specs.Seat.{proposed_record, draft_left, propose as propose_of};
 ghost use Rattle.tables.specs.View.{view, setup_of, SameMemory};
-ghost use Rattle.reacting.specs.Parts.{proposal_written};
 
 use holding::taking::take_in;
 use records::Record;
 use rules::rows::BlockRow;
 use tables::lent::Tables;
-use tables::reads::{draft_at, record_at, signers_at};
 use terms::terms::Terms;
 use writing::writes::{put_block, put_draft, put_record};
 
@@ -17,20 +15,16 @@ use writing::writes::{put_block, put_draft, put_record};
 fn proposed_record<R: Record>(draft: Option<R>, parent: &R) -> R
     ensures { result ≡ proposed_record R.Record.kind draft parent.now }
 {
-    match draft {
-        Some(d) if d.follows(parent) => d,
-        _ => parent.idle(),
-    }
+    draft
+        .filter(|d| d.follows(parent))
+        .unwrap_or_else(|| parent.idle())
 }
 
 // What is left of the draft: one that was used is cleared.
 fn draft_left<R: Record>(draft: Option<R>, parent: &R) -> Option<R>
     ensures { result ≡ draft_left R.Record.kind draft parent.now }
 {
-    match draft {
-        Some(d) if d.follows(parent) => None,
-        _ => draft,
-    }
+    draft.filter(|d| !d.follows(parent))
 }
 
 // A seat makes its block of a round on a parent, with the signatures on it that it has received, and takes it in.
@@ -39,19 +33,10 @@ pub(crate) fn propose<R: Record>(terms: Terms, t: &mut Tables<R>, seat: u8, roun
     ensures same { SameMemory t.new t.old }
     ensures seats { t.new.seats.now ≡ t.old.seats.now }
 {
-    write_proposal(terms, t, seat, round, parent);
-}
-
-// The same, write by write.
-fn write_proposal<R: Record>(terms: Terms, t: &mut Tables<R>, seat: u8, round: u16, parent: u32)
-    ensures is { view terms t.new ≡ proposal_written (setup_of terms t.old) R.Record.kind (view terms t.old) seat round parent }
-    ensures same { SameMemory t.new t.old }
-    ensures seats { t.new.seats.now ≡ t.old.seats.now }
-{
     let own = terms.own_block(seat, round);
-    let carried = signers_at(terms, &*t, seat, parent);
-    let above = record_at(&*t, parent);
-    let draft = draft_at(&*t, seat);
+    let carried = t.signers_at(terms, seat, parent);
+    let above = t.record_at(parent);
+    let draft = t.draft_at(seat);
     put_draft(&mut *t, seat, draft_left(draft, &above));
     put_block(
         &mut *t,

@@ -1,22 +1,30 @@
--- A chain written from its end: one block more, and the end.
-use Rattle.std.proofs.Common.{◌≡◌, ℕ, zero, suc, ◌+◌, ◌-◌, ◌<◌, ◌≤◌, List, [], ◌∷◌, ◌++◌, length, get_or, drop, set, sym, refl, ap, ◌∙◌, append_assoc, arith}
+-- A chain written from its newest block on, and then turned round.
+use Rattle.std.proofs.Common.{◌≡◌, ℕ, zero, suc, ◌+◌, ◌-◌, ◌<◌, ◌≤◌, List, [], ◌∷◌, ◌++◌, length, get_or, take, set, reverse, ap, append_assoc, arith}
+use Rattle.std.proofs.lemmas.List.{take_more_set, take_all, reverse-append}
 use Rattle.rules.specs.declared.rows.BlockRow.{BlockRow}
 use Rattle.rules.specs.Tables.{no_block}
-use Rattle.std.proofs.lemmas.List.{drop-set}
 use Rattle.reading.specs.Reading.{chain_of}
 
-pub chain_step : (bs : List BlockRow) (left b : ℕ) (xs : List ℕ) → 0 < left → left ≤ length xs
-    → chain_of bs left b ++ drop left xs ≡ chain_of bs (left - 1) (get_or bs b no_block).parent ++ drop (left - 1) (set xs (left - 1) b)
+-- the newest block of a chain stands behind the others
+chain_end : (bs : List BlockRow) (n m b : ℕ) → n ≡ suc m → chain_of bs n b ≡ chain_of bs m (get_or bs b no_block).parent ++ b ∷ []
 unfolding chain_of
-chain_step bs zero b xs pos h = absurd (omega arith)
-chain_step bs (suc k) b xs pos h =
-    let e : suc k - 1 ≡ k = omega arith in
-    let one : k + 1 ≡ suc k = omega arith in
-    let cut : drop k (set xs k b) ≡ b ∷ drop (suc k) xs = drop-set xs k b (omega arith) ∙ ap (λ (j : ℕ). b ∷ drop j xs) one in
-    append_assoc (chain_of bs k (get_or bs b no_block).parent) (b ∷ []) (drop (suc k) xs)
-    ∙ ap (λ (ys : List ℕ). chain_of bs k (get_or bs b no_block).parent ++ ys) (sym cut)
-    ∙ ap (λ (j : ℕ). chain_of bs j (get_or bs b no_block).parent ++ drop j (set xs j b)) (sym e)
+chain_end bs zero m b e = absurd (omega (arith, e))
+chain_end bs (suc k) m b e =
+    let same : k ≡ m = omega (arith, e) in
+    ap (λ (j : ℕ). chain_of bs j (get_or bs b no_block).parent ++ b ∷ []) same
 
-pub chain_end : (bs : List BlockRow) (b : ℕ) (xs : List ℕ) → chain_of bs 0 b ++ drop 0 xs ≡ xs
+-- one block more is written
+pub chain_step : (bs : List BlockRow) (b k : ℕ) (xs : List ℕ) → k < length xs
+    → chain_of bs (length xs - k) b ++ reverse (take k xs)
+    ≡ chain_of bs (length xs - (k + 1)) (get_or bs b no_block).parent ++ reverse (take (k + 1) (set xs k b))
+chain_step bs b k xs h =
+    let last : chain_of bs (length xs - k) b ≡ chain_of bs (length xs - (k + 1)) (get_or bs b no_block).parent ++ b ∷ [] =
+    chain_end bs (length xs - k) (length xs - (k + 1)) b (omega arith) in
+    rw (last, take_more_set xs k b h, reverse-append, append_assoc)
+
+-- all are written
+pub chain_done : (bs : List BlockRow) (b k : ℕ) (xs : List ℕ) → length xs ≤ k → chain_of bs (length xs - k) b ++ reverse (take k xs) ≡ reverse xs
 unfolding chain_of
-chain_end bs b xs = refl
+chain_done bs b k xs h =
+    let none : length xs - k ≡ 0 = omega arith in
+    rw (none, take_all k xs h)

@@ -1,5 +1,5 @@
 -- What can be read of a seat: where it stands, and its final chain.
-use Rattle.std.specs.Prelude.{ℕ, zero, suc, cond, List, [], ◌∷◌, ◌++◌, Ok, Err, Result, nat_lt, slice_index_or}
+use Rattle.std.specs.Prelude.{ℕ, zero, suc, cond, List, [], ◌∷◌, ◌++◌, Ok, Err, Result, drop, nat_lt, slice_index_or}
 use Rattle.rules.specs.declared.fault.BenchFault.{BenchFault}
 use Rattle.rules.specs.declared.fault.BenchFault.TheVariants.{ShortBuffer}
 use Rattle.rules.specs.declared.rows.BlockRow.{BlockRow}
@@ -18,6 +18,11 @@ unfoldable pub chain_of : List BlockRow → ℕ → ℕ → List ℕ
 chain_of blocks zero b = []
 chain_of blocks (suc k) b = chain_of blocks k (slice_index_or blocks b no_block).parent ++ b ∷ []
 
+-- a buffer is filled, but a refusal leaves it as it was
+abbrev pub buffer_by : Result ℕ BenchFault → List ℕ → List ℕ → List ℕ
+buffer_by (Ok k) filled old = filled
+buffer_by (Err f) filled old = old
+
 module _ {A : Type 0} (s : Setup) (t : Tables A) where
   -- where seat i stands: its round, its phase and its final head
   abbrev pub status_answer : ℕ → Result SeatRow BenchFault
@@ -35,7 +40,6 @@ module _ {A : Type 0} (s : Setup) (t : Tables A) where
   abbrev pub chain_answer : ℕ → ℕ → Result ℕ BenchFault
   chain_answer i room = then_value (honest_check s t i) (cond (nat_lt room (chain_length i)) (Err ShortBuffer) (Ok (chain_length i)))
 
--- the buffer after it: the chain stands at its start, and what is past it is as it was; a refusal leaves the buffer
-abbrev pub buffer_by : Result ℕ BenchFault → List ℕ → List ℕ → List ℕ
-buffer_by (Ok k) filled old = filled
-buffer_by (Err f) filled old = old
+  -- the buffer after a listing of seat i that answered r: its final chain, and past that what was there
+  abbrev pub buffer_after : ℕ → Result ℕ BenchFault → List ℕ → List ℕ
+  buffer_after i r old = buffer_by r (final_chain i ++ drop (chain_length i) old) old

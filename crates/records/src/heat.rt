@@ -26,16 +26,10 @@ impl Record for Heat {
     }
 
     fn follows(&self, parent: &Heat) -> bool {
-        if self.volume > 1_000_000 || self.calorific > 60_000 {
-            return false;
-        }
-        match parent
-            .total
-            .checked_add(self.volume as u64 * self.calorific as u64)
-        {
-            Some(total) => self.total == total,
-            None => false,
-        }
+        let added = self.volume as u64 * self.calorific as u64;
+        self.volume <= 1_000_000
+            && self.calorific <= 60_000
+            && parent.total.checked_add(added) == Some(self.total)
     }
 
     fn idle(&self) -> Heat {

@@ -21,11 +21,10 @@ impl Record for Turn {
     }
 
     fn follows(&self, parent: &Turn) -> bool {
-        let same = self.holder == parent.holder && self.turn == parent.turn;
         let next = self.turn as u64 == parent.turn as u64 + 1
             && self.holder <= 15
             && self.holder != parent.holder;
-        same || next
+        self == parent || next
     }
 
     fn idle(&self) -> Turn {

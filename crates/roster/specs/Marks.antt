@@ -1,5 +1,6 @@
 -- Starting a roster and marking its seats. The marked seats are the bits of a number: bit s is seat s.
-use Rattle.std.specs.Prelude.{ℕ, ◌+◌, ◌*◌, ◌/◌, ◌%◌, ◌^◌, Bool, false, cond, not, Some, None, Ok, Err, Option, Result, ◌==◌, bit_or, count_ones, nat_lt}
+use Rattle.std.specs.Prelude.{ℕ, ◌+◌, ◌*◌, ◌^◌, Bool, false, cond, not, Some, None, Ok, Err, Option, Result, ◌==◌, bit_or, count_ones, nat_lt}
+use Rattle.numbers.specs.Sets.{has_bit}
 use Rattle.roster.specs.declared.fault.RosterFault.{RosterFault}
 use Rattle.roster.specs.declared.fault.RosterFault.TheVariants.{SeatCount, NoSuchSeat, AlreadyByzantine, TooManyByzantine}
 
@@ -9,7 +10,7 @@ start_refusal n = cond (n == 0) (Some SeatCount) (cond (nat_lt 16 n) (Some SeatC
 
 -- whether seat s is among the marked
 abbrev pub is_marked : ℕ → ℕ → Bool
-is_marked marks s = marks / 2 ^ s % 2 == 1
+is_marked marks s = has_bit marks s
 
 -- the answer to marking seat s, of n seats with these marks: the first refusal that applies, or none
 abbrev pub mark_answer : ℕ → ℕ → ℕ → Result (Unit {0}) RosterFault

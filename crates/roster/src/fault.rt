@@ -1,6 +1,5 @@
 //! Why a roster turns a call down.
-ghost use Rattle.std.specs.Prelude.{◌≡◌};
-ghost use Rattle.roster.specs.Faults.{roster_fault_number, roster_fault_sentence};
+use refusals::Refusal;
 
 #[derive(Clone, Copy, PartialEq, Eq, Debug)]
 pub enum RosterFault {
@@ -14,11 +13,14 @@ pub enum RosterFault {
     TooManyByzantine,
 }
 
-impl RosterFault {
-    /// The number that a refusal is printed with.
-    pub fn number(self) -> u8
-        ensures { result ≡ roster_fault_number self }
-    {
+impl Refusal for RosterFault {
+    ghost use Rattle.roster.specs.Faults.{roster_fault_number, roster_fault_sentence};
+
+    ghost number = { roster_fault_number };
+
+    ghost sentence = { roster_fault_sentence };
+
+    fn number(self) -> u8 {
         match self {
             RosterFault::SeatCount => 1,
             RosterFault::NoSuchSeat => 2,
@@ -27,10 +29,7 @@ impl RosterFault {
         }
     }
 
-    /// The refusal in a plain sentence.
-    pub fn sentence(self) -> &'static str
-        ensures { result.now ≡ roster_fault_sentence self }
-    {
+    fn sentence(self) -> &'static str {
         match self {
             RosterFault::SeatCount => "a roster has 1 to 16 seats",
             RosterFault::NoSuchSeat => "there is no such seat",

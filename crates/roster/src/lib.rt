@@ -2,5 +2,4 @@
 #![tactic(auto)]
 
 pub mod fault;
-pub mod marks;
 pub mod roster;

@@ -3,15 +3,15 @@ ghost use Rattle.std.specs.Prelude.{◌≡◌, ◌*◌, ◌^◌, ◌<◌, ◌≤
 ghost use Rattle.roster.specs.Marks.{start_refusal, mark_answer, marks_after, is_honest};
 
 use crate::fault::RosterFault;
-use crate::marks::{no_marks, with_mark};
 use numbers::limits::MOST_SEATS;
+use numbers::seat_set::SeatSet;
 
-/// The seats, numbered from 0, and which of them are Byzantine: bit s of `marks` is seat s.
+/// The seats, numbered from 0, and which of them are Byzantine.
 /// Fewer than half of them are, always: the type says so, so nothing that takes a roster has to ask.
 #[derive(Drop, PartialEq, Eq, Debug)]
 pub struct Roster {
     n: u8,
-    marks: u16,
+    marks: SeatSet,
     ghost fewer_than_half: { 2 * count_ones marks < n },
     ghost seats_only: { marks < 2 ^ n },
     ghost sixteen: { n ≤ 16 },
@@ -22,12 +22,12 @@ impl Roster {
     pub fn start(n: u8) -> Result<Roster, RosterFault>
         ensures { MatchResult result (λ t. (start_refusal n ≡ None) × (t.n ≡ n) × (t.marks ≡ 0)) (λ e. start_refusal n ≡ Some e) }
     {
-        if n == 0 || n > MOST_SEATS {
+        if !(1..=MOST_SEATS).contains(&n) {
             return Err(RosterFault::SeatCount);
         }
         Ok(Roster {
             n,
-            marks: no_marks(),
+            marks: SeatSet::default(),
         })
     }
 
@@ -41,13 +41,13 @@ impl Roster {
         if seat >= self.n {
             return Err(RosterFault::NoSuchSeat);
         }
-        if (self.marks >> seat) % 2 == 1 {
+        if self.marks.contains(seat) {
             return Err(RosterFault::AlreadyByzantine);
         }
-        if 2 * (self.marks.count_ones() + 1) >= self.n as u32 {
+        if 2 * (self.marks.count() + 1) >= self.n {
             return Err(RosterFault::TooManyByzantine);
         }
-        self.marks = with_mark(self.marks, seat);
+        self.marks = self.marks.with(seat);
         Ok(())
     }
 
@@ -58,8 +58,8 @@ impl Roster {
         self.n
     }
 
-    /// The Byzantine seats: bit s is seat s.
-    pub fn byzantine_seats(&self) -> u16
+    /// The Byzantine seats.
+    pub fn byzantine_seats(&self) -> SeatSet
         ensures { result ≡ self.now.marks }
     {
         self.marks
@@ -70,13 +70,13 @@ impl Roster {
         ensures value { result ≡ count_ones self.now.marks }
         ensures fewer_than_half { 2 * result < self.now.n }
     {
-        self.marks.count_ones() as u8
+        self.marks.count()
     }
 
     /// Whether a seat of the roster is honest; false where there is no such seat.
     pub fn is_honest(&self, seat: u8) -> bool
         ensures { result ≡ is_honest self.now.n self.now.marks seat }
     {
-        seat < self.n && (self.marks >> seat) % 2 == 0
+        seat < self.n && !self.marks.contains(seat)
     }
 }

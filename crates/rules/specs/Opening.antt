@@ -1,5 +1,5 @@
 -- Opening a bench: its refusals, and the tables after it.
-use Rattle.std.specs.Prelude.{ℕ, ◌+◌, ◌*◌, Bool, true, false, cond, ◌∷◌, replicate, None, Ok, Err, Result, ◌==◌, nat_le, nat_lt}
+use Rattle.std.specs.Prelude.{ℕ, ◌+◌, ◌*◌, Bool, true, false, if◌then◌else◌, ◌∷◌, replicate, None, Ok, Err, Result, ◌==◌, nat_le, nat_lt}
 use Rattle.orders.specs.Ranking.{Ranking}
 use Rattle.orders.specs.Rows.{order_rows}
 use Rattle.records.specs.Kind.{Kind}
@@ -27,20 +27,20 @@ bench_of ro delay rounds editions quorum = record {
 
 -- from 1 to a limit
 abbrev pub within : ℕ → ℕ → Bool
-within x limit = cond (nat_lt 0 x) (nat_le x limit) false
+within x limit = if nat_lt 0 x then nat_le x limit else false
 
 -- a beacon with this meaning serves a bench: it has the seat count, and covers the rounds
 abbrev pub serves : Ranking → Bench → Bool
-serves m b = cond (m.seats == b.n) (nat_le b.rounds m.rounds) false
+serves m b = if m.seats == b.n then nat_le b.rounds m.rounds else false
 
 -- the answer to opening bench b with a beacon that means m, on the tables t of the caller
 unfoldable pub open_answer : {A : Type 0} → Bench → Ranking → Tables A → Result (Unit {0}) BenchFault
 open_answer b m t =
-    cond (within b.delay 1000) (
-    cond (cond (within b.rounds 256) (serves m b) false) (
-    cond (within b.editions 8) (
-    cond (fits (setup_at b t) t) (Ok tt)
-    (Err TableLength)) (Err EditionOutOfRange)) (Err RoundOutOfRange)) (Err DelayOutOfRange)
+    if within b.delay 1000 then (
+    if (if within b.rounds 256 then serves m b else false) then (
+    if within b.editions 8 then (
+    if fits (setup_at b t) t then Ok tt
+    else Err TableLength) else Err EditionOutOfRange) else Err RoundOutOfRange) else Err DelayOutOfRange
 
 -- block 0, and the blocks of round 1, which stand on it
 abbrev pub first_block : BlockRow

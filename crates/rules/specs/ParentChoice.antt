@@ -1,5 +1,5 @@
 -- The parent that a proposal stands on.
-use Rattle.std.specs.Prelude.{ℕ, ◌+◌, cond, nat_lt}
+use Rattle.std.specs.Prelude.{ℕ, ◌+◌, if◌then◌else◌, nat_lt}
 use Rattle.rules.specs.Loops.{upto}
 use Rattle.rules.specs.Setup.{Setup, round_start, round_width}
 use Rattle.rules.specs.Tables.{Tables}
@@ -11,6 +11,6 @@ use Rattle.rules.specs.Weights.{weight_of}
 unfoldable pub parent_choice : {A : Type 0} → Setup → Tables A → ℕ → ℕ → ℕ → ℕ
 parent_choice s t i r c =
     upto (λ x best.
-    cond (holds_notarisation s t i (round_start s r + x)) (
-    cond (nat_lt (weight_of s t best) (weight_of s t (round_start s r + x))) (round_start s r + x) best) best)
+    if holds_notarisation s t i (round_start s r + x) then (
+    if nat_lt (weight_of s t best) (weight_of s t (round_start s r + x)) then round_start s r + x else best) else best)
     c (round_width s)

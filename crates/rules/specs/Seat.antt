@@ -1,5 +1,5 @@
 -- One seat's round: it enters and proposes, waits, votes and leaves.
-use Rattle.std.specs.Prelude.{ℕ, suc, ◌+◌, ◌-◌, ◌*◌, ◌^◌, true, cond, Some, None, Option, nat_le, slice_set}
+use Rattle.std.specs.Prelude.{ℕ, suc, ◌+◌, ◌-◌, ◌*◌, ◌^◌, true, if◌then◌else◌, Some, None, Option, nat_le, slice_set, unwrap_or}
 use Rattle.records.specs.Kind.{Kind}
 use Rattle.rules.specs.declared.rows.Phase.{Phase}
 use Rattle.rules.specs.declared.rows.Phase.TheVariants.{Waiting, Voting, Resting}
@@ -14,17 +14,17 @@ use Rattle.rules.specs.HeadChoice.{next_head}
 
 -- a vote at this tick, if there is none yet
 abbrev pub vote_row : ℕ → VoteRow → VoteRow
-vote_row clock a = cond a.sent a (record { sent = true; tick = clock })
+vote_row clock a = record { sent = Some (unwrap_or a.sent clock) }
 
 -- the record of a proposal on a block with record p: the draft if there is one that follows, else the idle record
 abbrev pub proposed_record : {A : Type 0} → Kind A → Option A → A → A
 proposed_record K None p = K.idle p
-proposed_record K (Some d) p = cond (K.follows d p) d (K.idle p)
+proposed_record K (Some d) p = if K.follows d p then d else K.idle p
 
 -- what is left of the draft: one that was used is cleared
 abbrev pub draft_left : {A : Type 0} → Kind A → Option A → A → Option A
 draft_left K None p = None
-draft_left K (Some d) p = cond (K.follows d p) None (Some d)
+draft_left K (Some d) p = if K.follows d p then None else Some d
 
 -- block b is made, on the parent p, with the signatures m on p and the record x
 abbrev pub with_block : {A : Type 0} → Tables A → ℕ → ℕ → ℕ → A → Tables A
@@ -39,15 +39,8 @@ module _ {A : Type 0} (s : Setup) where
 
   -- seat i sends the certificate of round r + 1, for block c with the signatures m, and enters round r + 2
   abbrev pub moves_on : Tables A → ℕ → ℕ → ℕ → ℕ → Tables A
-  moves_on t i r c m = record {
-    clock = t.clock;
-    blocks = t.blocks;
-    records = t.records;
-    orders = t.orders;
-    drafts = t.drafts;
+  moves_on t i r c m = record t {
     seats = slice_set t.seats i (record { round = suc (suc r); phase = Waiting; head = (seat_at t i).head });
-    received = t.received;
-    votes = t.votes;
     certificates = slice_set t.certificates (i * s.rounds + r) (record { block = c; signers = m; tick = t.clock });
   }
 
@@ -61,7 +54,7 @@ module _ {A : Type 0} (s : Setup) (K : Kind A) where
   -- Seat i votes for the blocks of round r that have the rank `low`.
   unfoldable pub vote_at_rank : Tables A → ℕ → ℕ → ℕ → Tables A
   vote_at_rank t i r low =
-      upto (λ x u. cond (voting_choice s K u i low (round_start s r + x)) (vote_for s i u (round_start s r + x)) u) t (round_width s)
+      upto (λ x u. if voting_choice s K u i low (round_start s r + x) then vote_for s i u (round_start s r + x) else u) t (round_width s)
 
   -- c is the first valid block that it holds, if it holds one
   abbrev pub vote_from : Tables A → ℕ → ℕ → Option ℕ → Tables A
@@ -76,7 +69,7 @@ module _ {A : Type 0} (s : Setup) (K : Kind A) where
   -- last it proposes.
   unfoldable pub leave : Tables A → ℕ → ℕ → ℕ → Tables A
   leave t i r c = moves_on s
-      (cond (nat_le (suc (suc r)) s.rounds) (propose t i (suc (suc r)) (parent_choice s t i (suc r) c)) t)
+      (if nat_le (suc (suc r)) s.rounds then propose t i (suc (suc r)) (parent_choice s t i (suc r) c) else t)
       i r c (received_at s t i c).signers
 
   -- .. if there is such a block, else the tables u
@@ -104,7 +97,7 @@ module _ {A : Type 0} (s : Setup) (K : Kind A) where
   abbrev pub wakes : Tables A → ℕ → Tables A
   wakes t i = with_seats t (slice_set t.seats i (record {
     round = (seat_at t i).round;
-    phase = cond (nat_le (seat_at t i).round s.rounds) Voting Resting;
+    phase = if nat_le (seat_at t i).round s.rounds then Voting else Resting;
     head = next_head s K t i;
   }))
 

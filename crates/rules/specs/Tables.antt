@@ -1,5 +1,5 @@
 -- The tables of a bench: their rows, reading them, and tables with one of the lists replaced.
-use Rattle.std.specs.Prelude.{ℕ, zero, suc, ◌+◌, ◌*◌, Bool, true, false, cond, List, length, get_or, None, Option, ◌==◌, slice_index_or}
+use Rattle.std.specs.Prelude.{ℕ, zero, suc, ◌+◌, ◌*◌, Bool, true, false, if◌then◌else◌, List, length, None, Option, ◌==◌, is_some, slice_index_or, unwrap_or}
 use Rattle.records.specs.Kind.{Kind}
 use Rattle.rules.specs.declared.rows.Phase.{Phase}
 use Rattle.rules.specs.declared.rows.Phase.TheVariants.{Waiting, Voting, Resting}
@@ -37,10 +37,18 @@ abbrev pub nothing_received : ReceivedRow
 nothing_received = record { held = false; signers = 0 }
 
 abbrev pub no_vote : VoteRow
-no_vote = record { sent = false; tick = 0 }
+no_vote = record { sent = None }
 
 abbrev pub no_certificate : CertificateRow
 no_certificate = record { block = 0; signers = 0; tick = 0 }
+
+-- the seat has signed the block ..
+abbrev pub has_signed : VoteRow → Bool
+has_signed a = is_some a.sent
+
+-- .. at this tick; 0 if it has not
+abbrev pub signing_tick : VoteRow → ℕ
+signing_tick a = unwrap_or a.sent 0
 
 abbrev pub is_waiting : Phase → Bool
 is_waiting Waiting = true
@@ -83,97 +91,36 @@ module _ {A : Type 0} (s : Setup) where
   abbrev pub entered_at : Tables A → ℕ → ℕ → ℕ
   entered_at t i zero = 0
   entered_at t i (suc zero) = 0
-  entered_at t i (suc (suc r)) = (get_or t.certificates (i * s.rounds + r) no_certificate).tick
+  entered_at t i (suc (suc r)) = (slice_index_or t.certificates (i * s.rounds + r) no_certificate).tick
 
   -- every table has the length required
   unfoldable pub fits : Tables A → Bool
   fits t =
-      cond (length t.blocks == block_rows s) (
-      cond (length t.records == block_rows s) (
-      cond (length t.orders == s.rounds) (
-      cond (length t.drafts == s.n) (
-      cond (length t.seats == s.n) (
-      cond (length t.received == block_rows s * s.n) (
-      cond (length t.votes == block_rows s * s.n) (
-      (length t.certificates == s.n * s.rounds)) false) false) false) false) false) false) false
+      if length t.blocks == block_rows s then (
+      if length t.records == block_rows s then (
+      if length t.orders == s.rounds then (
+      if length t.drafts == s.n then (
+      if length t.seats == s.n then (
+      if length t.received == block_rows s * s.n then (
+      if length t.votes == block_rows s * s.n then length t.certificates == s.n * s.rounds else false) else false) else false) else false) else false) else false) else false
 
 -- the tables with some lists replaced; no call replaces the order rows
 module _ {A : Type 0} where
   abbrev pub with_blocks : Tables A → List BlockRow → List A → Tables A
-  with_blocks t x y = record {
-    clock = t.clock;
-    blocks = x;
-    records = y;
-    orders = t.orders;
-    drafts = t.drafts;
-    seats = t.seats;
-    received = t.received;
-    votes = t.votes;
-    certificates = t.certificates;
-  }
+  with_blocks t x y = record t { blocks = x; records = y }
 
   abbrev pub with_drafts : Tables A → List (Option A) → Tables A
-  with_drafts t x = record {
-    clock = t.clock;
-    blocks = t.blocks;
-    records = t.records;
-    orders = t.orders;
-    drafts = x;
-    seats = t.seats;
-    received = t.received;
-    votes = t.votes;
-    certificates = t.certificates;
-  }
+  with_drafts t x = record t { drafts = x }
 
   abbrev pub with_seats : Tables A → List SeatRow → Tables A
-  with_seats t x = record {
-    clock = t.clock;
-    blocks = t.blocks;
-    records = t.records;
-    orders = t.orders;
-    drafts = t.drafts;
-    seats = x;
-    received = t.received;
-    votes = t.votes;
-    certificates = t.certificates;
-  }
+  with_seats t x = record t { seats = x }
 
   abbrev pub with_received : Tables A → List ReceivedRow → Tables A
-  with_received t x = record {
-    clock = t.clock;
-    blocks = t.blocks;
-    records = t.records;
-    orders = t.orders;
-    drafts = t.drafts;
-    seats = t.seats;
-    received = x;
-    votes = t.votes;
-    certificates = t.certificates;
-  }
+  with_received t x = record t { received = x }
 
   abbrev pub with_votes : Tables A → List VoteRow → List ReceivedRow → Tables A
-  with_votes t x y = record {
-    clock = t.clock;
-    blocks = t.blocks;
-    records = t.records;
-    orders = t.orders;
-    drafts = t.drafts;
-    seats = t.seats;
-    received = y;
-    votes = x;
-    certificates = t.certificates;
-  }
+  with_votes t x y = record t { votes = x; received = y }
 
   -- the clock one tick later
   abbrev pub next_tick : Tables A → Tables A
-  next_tick t = record {
-    clock = suc t.clock;
-    blocks = t.blocks;
-    records = t.records;
-    orders = t.orders;
-    drafts = t.drafts;
-    seats = t.seats;
-    received = t.received;
-    votes = t.votes;
-    certificates = t.certificates;
-  }
+  next_tick t = record t { clock = suc t.clock }

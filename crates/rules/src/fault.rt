@@ -1,8 +1,8 @@
 //! Why a bench turns a call down.
 ghost use Rattle.std.specs.Prelude.{◌≡◌};
 ghost use Rattle.rules.specs.declared.fault.BenchFault.TheVariants.{Roster};
-ghost use Rattle.rules.specs.Faults.{bench_fault_number, bench_fault_sentence};
 
+use refusals::Refusal;
 use roster::fault::RosterFault;
 
 #[derive(Clone, Copy, PartialEq, Eq, Debug)]
@@ -47,11 +47,14 @@ impl From<RosterFault> for BenchFault {
     }
 }
 
-impl BenchFault {
-    /// The number that a refusal is printed with.
-    pub fn number(self) -> u8
-        ensures { result ≡ bench_fault_number self }
-    {
+impl Refusal for BenchFault {
+    ghost use Rattle.rules.specs.Faults.{bench_fault_number, bench_fault_sentence};
+
+    ghost number = { bench_fault_number };
+
+    ghost sentence = { bench_fault_sentence };
+
+    fn number(self) -> u8 {
         match self {
             BenchFault::Roster(f) => f.number(),
             BenchFault::NoSuchSeat => 2,
@@ -71,10 +74,7 @@ impl BenchFault {
         }
     }
 
-    /// The refusal in a plain sentence.
-    pub fn sentence(self) -> &'static str
-        ensures { result.now ≡ bench_fault_sentence self }
-    {
+    fn sentence(self) -> &'static str {
         match self {
             BenchFault::Roster(f) => f.sentence(),
             BenchFault::NoSuchSeat => "there is no such seat",

@@ -1,29 +1,38 @@
-//! The rows of the tables that a bench keeps.
+//! The rows of the tables that a bench keeps. The default row is the blank one, which also stands for what lies past a table's end.
+//!
+//! Sets of seats lie in the rows as numbers of 16 bits, and `numbers::seat_set::SeatSet` takes them apart: the check has no proof yet of
+//! code that hands a row on and uses it again where one of its fields is such a set.
+
+use std::mem::size_of;
 
 /// What a seat does in its round.
-#[derive(Clone, Copy, Drop)]
+#[derive(Clone, Copy, PartialEq, Eq, Debug, Default, Drop)]
 pub enum Phase {
     /// It has entered the round and takes messages in.
     Waiting,
     /// Its wait is over: it votes, and leaves when it holds a notarisation of the round.
     Voting,
     /// It is past the last round.
+    #[default]
     Resting,
 }
 
 /// One row for each block number.
-#[derive(Clone, Copy, Drop)]
+#[derive(Clone, Copy, PartialEq, Eq, Debug, Default, Drop)]
 pub struct BlockRow {
-    /// Whether there is such a block.
-    pub made: bool,
     /// The number of the block that it stands on.
     pub parent: u32,
     /// The signatures on the parent that it carries: bit s is seat s.
     pub carried: u16,
+    /// Whether there is such a block. A flag, since it fits in the 8 bytes of a row: an `Option` of the others takes 12,
+    /// and the caller lends a row for each block that there can be.
+    pub made: bool,
 }
 
+const _: () = prove!(size_of::<BlockRow>() == 8);
+
 /// One row for each seat.
-#[derive(Clone, Copy, Drop)]
+#[derive(Clone, Copy, PartialEq, Eq, Debug, Default, Drop)]
 pub struct SeatRow {
     pub round: u16,
     pub phase: Phase,
@@ -32,25 +41,23 @@ pub struct SeatRow {
 }
 
 /// One row for each block and seat: what the seat has received of the block.
-#[derive(Clone, Copy, Drop)]
+#[derive(Clone, Copy, PartialEq, Eq, Debug, Default, Drop)]
 pub struct ReceivedRow {
-    /// Whether the seat holds the block.
+    /// Whether the seat holds the block. Signatures are kept whether it does or not, so neither field tells the other.
     pub held: bool,
     /// The signatures on the block that the seat has received: bit s is seat s.
     pub signers: u16,
 }
 
 /// One row for each block and seat: the seat's signature on the block.
-#[derive(Clone, Copy, Drop)]
+#[derive(Clone, Copy, PartialEq, Eq, Debug, Default, Drop)]
 pub struct VoteRow {
-    /// Whether the seat has signed the block.
-    pub sent: bool,
-    /// The tick at which it did.
-    pub tick: u32,
+    /// The tick at which the seat signed the block, if it has.
+    pub sent: Option<u32>,
 }
 
 /// One row for each seat and round: the certificate with which the seat left the round.
-#[derive(Clone, Copy, Drop)]
+#[derive(Clone, Copy, PartialEq, Eq, Debug, Default, Drop)]
 pub struct CertificateRow {
     /// The notarised block of the round that it names.
     pub block: u32,

@@ -4,12 +4,13 @@
 ghost use Rattle.std.specs.Prelude.{◌≡◌, ◌+◌, ◌%◌, ◌<◌, ◌≤◌, take, bit_xor};
 ghost use Rattle.orders.specs.Ranking.{seat_count};
 ghost use Rattle.shuffle.specs.SplitMix.{advanced, drawn};
-ghost use Rattle.shuffle.specs.Shuffle.{arrangement, exchanged, place, shuffle_ranking};
+ghost use Rattle.shuffle.specs.Shuffle.{arrangement, exchanged, shuffle_ranking};
 ghost use Rattle.shuffle.specs.ShuffleOrder.{shuffle_order};
 
 use crate::splitmix::SplitMix64;
 use orders::Beacon;
 use orders::search::first_place;
+use orders::seats::SeatCount;
 
 pub mod splitmix;
 
@@ -17,20 +18,18 @@ pub mod splitmix;
 #[derive(Clone, Copy)]
 pub struct Shuffle {
     seed: u64,
-    n: u8,
-    ghost some: { 1 ≤ n },
-    ghost sixteen: { n ≤ 16 },
+    seats: SeatCount,
 }
 
 impl Shuffle {
     /// A seat count outside 1 to 16 is taken as 1.
     pub fn new(seed: u64, n: u8) -> Shuffle
-        ensures { (result.n ≡ seat_count n) × (result.seed ≡ seed) }
+        ensures { (result.seats.n ≡ seat_count n) × (result.seed ≡ seed) }
     {
-        if n == 0 || n > 16 {
-            return Shuffle { seed, n: 1 };
+        Shuffle {
+            seed,
+            seats: SeatCount::new(n),
         }
-        Shuffle { seed, n }
     }
 }
 
@@ -44,8 +43,8 @@ fn exchange(places: &mut [u8; 16], m: u8, source: &mut SplitMix64)
     places.swap(m as usize, (d % (m as u64 + 1)) as usize);
 }
 
-// The seats from 0 to n - 1 in the order of their ranks, with the generator started at `start`; past them what the list
-// began with.
+// The seats from 0 to n - 1 in the order of their ranks, with the generator started at `start`; past them what the list began
+// with. A list of sixteen, by value, as every order is.
 fn arrange(start: u64, n: u8) -> [u8; 16]
     requires { (1 ≤ n) × (n ≤ 16) }
     ensures { take n result ≡ arrangement n start }
@@ -58,37 +57,28 @@ fn arrange(start: u64, n: u8) -> [u8; 16]
     places
 }
 
-// The place of a seat among the first n.
-fn place_of(places: &[u8; 16], n: u8, seat: u8) -> u8
-    requires { n ≤ 16 }
-    ensures { result ≡ place seat (take n places.now) }
-{
-    first_place(places, n, seat)
-}
-
 impl Beacon for Shuffle {
-    ghost ranking = { λ b. shuffle_ranking b.seed b.n };
+    ghost ranking = { λ b. shuffle_ranking b.seed b.seats.n };
 
     ghost lawful = { λ b.
         record {
-          some = b.some;
-          sixteen = b.sixteen;
-          orders = λ r h k. shuffle_order b.n (bit_xor b.seed r) b.some;
+          some = b.seats.some;
+          sixteen = b.seats.sixteen;
+          orders = λ r h k. shuffle_order b.seats.n (bit_xor b.seed r) b.seats.some;
         } };
 
     fn seat_count(&self) -> u8 {
-        self.n
+        self.seats.get()
     }
 
     fn last_round(&self) -> u16 {
-        65535
+        u16::MAX
     }
 
-    fn rank_of(&self, round: u16, seat: u8) -> u8 {
-        if round == 0 || seat >= self.n {
-            return 16;
-        }
-        let places = arrange(self.seed ^ round as u64, self.n);
-        place_of(&places, self.n, seat)
+    fn covered_rank(&self, round: u16, seat: u8) -> u8 {
+        let n = self.seats.get();
+        let places = arrange(self.seed ^ round as u64, n);
+        // Each seat below n has a place.
+        first_place(&places, n, seat).unwrap_or(n)
     }
 }

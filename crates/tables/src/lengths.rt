@@ -7,19 +7,22 @@ use crate::lent::Tables;
 use records::Record;
 use terms::terms::Terms;
 
-/// Whether every table has the length that the bench requires.
-pub fn fits<R: Record>(terms: Terms, t: &Tables<R>) -> bool
-    ensures { result ≡ fits_of (setup_of terms t.now) (view terms t.now) }
-{
-    let blocks = terms.block_rows();
-    let n = terms.n as usize;
-    let rounds = terms.rounds as usize;
-    t.blocks.len() == blocks
-        && t.records.len() == blocks
-        && t.orders.len() == rounds
-        && t.drafts.len() == n
-        && t.seats.len() == n
-        && t.received.len() == blocks * n
-        && t.votes.len() == blocks * n
-        && t.certificates.len() == n * rounds
+impl<R: Record> Tables<'_, R> {
+    /// Whether every table has the length that the bench requires.
+    #[tactic(auto, unfolding(rules::specs::Tables::fits))]
+    pub fn fits(&self, terms: Terms) -> bool
+        ensures { result ≡ fits_of (setup_of terms self.now) (view terms self.now) }
+    {
+        let blocks = terms.block_rows();
+        let n = terms.n as usize;
+        let rounds = terms.rounds as usize;
+        self.blocks.len() == blocks
+            && self.records.len() == blocks
+            && self.orders.len() == rounds
+            && self.drafts.len() == n
+            && self.seats.len() == n
+            && self.received.len() == blocks * n
+            && self.votes.len() == blocks * n
+            && self.certificates.len() == n * rounds
+    }
 }

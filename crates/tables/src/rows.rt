@@ -5,5 +5,5 @@ ghost use Rattle.std.specs.Prelude.{◌≡◌, slice_index_or};
 pub fn row_or<T: Copy>(rows: &[T], at: usize, blank: T) -> T
     ensures { result ≡ slice_index_or rows.now at blank }
 {
-    if at < rows.len() { rows[at] } else { blank }
+    rows.get(at).copied().unwrap_or(blank)
 }

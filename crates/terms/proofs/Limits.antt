@@ -1,8 +1,7 @@
--- Where a round starts, and limits on numbers.
+-- Where a round starts.
 use mathlib.Core.Path.{◌≡◌, refl}
 use mathlib.Core.Bool.{false, cond}
-use Prim.Native.Nat.{ℕ, zero, suc, ◌+◌, ◌-◌, ◌*◌, ◌≤◌}
-use native.Mathlib.Nat.{mul-le-mul}
+use Prim.Native.Nat.{ℕ, zero, suc, ◌+◌, ◌-◌, ◌*◌}
 use native.Mathlib.Omega.{arith}
 use lib.Dec.{eqb}
 use borrow.Author.Tests.{ne_eqb}
@@ -16,13 +15,3 @@ round_start_is s (suc r) =
     let e : suc r - 1 ≡ r = omega arith in
     let g : suc (r * (s.n * s.editions)) ≡ 1 + r * (s.n * s.editions) = omega arith in
     rw (f, e) g
-
--- the numbers of a bench fit into 32 bits
-pub width_most : (n e : ℕ) → n ≤ 16 → e ≤ 8 → n * e ≤ 128
-width_most n e ln le = mul-le-mul ln le
-
-pub start_most : (a w : ℕ) → a ≤ 65534 → w ≤ 128 → a * w ≤ 65534 * 128
-start_most a w la lw = mul-le-mul la lw
-
-pub rows_most : (r n e : ℕ) → r ≤ 256 → n ≤ 16 → e ≤ 8 → r * n * e ≤ 32768
-rows_most r n e lr ln le = mul-le-mul (mul-le-mul lr ln) le

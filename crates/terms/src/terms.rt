@@ -7,7 +7,7 @@ ghost use Rattle.std.specs.Int.Count.{ones};
 pub struct Terms {
     /// How many seats there are.
     pub n: u8,
-    /// The Byzantine seats: bit s is seat s.
+    /// The Byzantine seats: the bits of a `SeatSet`. As the set itself, copies of these numbers get no proof yet.
     pub marks: u16,
     /// Within so many ticks an honest seat's message has to reach every honest seat.
     pub delay: u16,

@@ -36,6 +36,10 @@ module _ {A : Type 0} (s : Setup) (t : Tables A) where
       let over = leb (entered_at s t i (seat_at t i).round + 2 * s.delay) t.clock in
       waiting (seat_at t i).phase (both_l (is_waiting (seat_at t i).phase) over (both_r (honest s i) (cond (is_waiting (seat_at t i).phase) over false) h))
 
+  -- .. and is a seat of the bench
+  pub due_seat : (i : ℕ) → wait_due s t i ≡ true → ltb i s.n ≡ true
+  due_seat i h = both_l (ltb i s.n) _ (both_l (honest s i) _ h)
+
 -- the setup is read from the tables each time, and stays
 pub ended_more : {A : Type 0} (s d : Setup) (K : Kind A) (t u v : Tables A) (k : ℕ) → d ≡ s → u ≡ upto (end_due s K) t k
     → v ≡ end_due d K k u → v ≡ upto (end_due s K) t (k + 1)

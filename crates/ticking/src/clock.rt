@@ -12,7 +12,6 @@ use numbers::limits::LAST_TICK;
 use overdue::some_overdue;
 use records::Record;
 use rules::fault::BenchFault;
-use tables::lengths::fits;
 use tables::lent::Tables;
 use terms::terms::Terms;
 
@@ -24,7 +23,7 @@ fn check_tick<R: Record>(terms: Terms, t: &Tables<R>) -> Result<(), BenchFault>
         cond (nat_lt terms.clock 8000000) (Ok tt)
         (Err ClockStopped)) else Err TableLength) }
 {
-    if !fits(terms, t) {
+    if !t.fits(terms) {
         return Err(BenchFault::TableLength);
     }
     if some_overdue(terms, t) {
@@ -37,6 +36,7 @@ fn check_tick<R: Record>(terms: Terms, t: &Tables<R>) -> Result<(), BenchFault>
 }
 
 /// One tick: the clock moves on, and then the waits that are due end. A refusal changes nothing.
+#[tactic(auto, using(crate::proofs::Turns::tick_is))]
 pub fn tick<R: Record>(terms: &mut Terms, t: &mut Tables<R>) -> Result<(), BenchFault>
     ensures is { record { answer = result; tables = view terms.new t.new } ≡ tick_of (setup_of terms.old t.old) R.Record.kind (view terms.old t.old) }
     ensures bench { bench_of_terms terms.new ≡ bench_of_terms terms.old }

@@ -1,11 +1,8 @@
 //! The waits that end at a tick.
-ghost use Rattle.std.specs.Prelude.{◌≡◌, ◌<◌};
-ghost use Rattle.rules.specs.declared.rows.Phase.TheVariants.{Waiting};
+ghost use Rattle.std.specs.Prelude.{◌≡◌};
 ghost use Rattle.rules.specs.Loops.{upto};
-ghost use Rattle.rules.specs.Tables.{seat_at};
-ghost use Rattle.rules.specs.Seat.{end_wait};
 ghost use Rattle.rules.specs.Calls.{end_due};
-ghost use Rattle.tables.specs.View.{view, rows_of, setup_of, SameMemory};
+ghost use Rattle.tables.specs.View.{view, setup_of, SameMemory};
 
 use crate::waits::{wait_due, wake};
 use reacting::reaction::react;
@@ -13,24 +10,14 @@ use records::Record;
 use tables::lent::Tables;
 use terms::terms::Terms;
 
-// The wait of a seat ends: it takes its final head, votes or rests, and reacts.
-pub(crate) fn end_wait<R: Record>(terms: Terms, t: &mut Tables<R>, seat: u8)
-    requires { (seat < terms.n) × ((seat_at (rows_of t.old) seat).phase ≡ Waiting) }
-    ensures is { view terms t.new ≡ end_wait (setup_of terms t.old) R.Record.kind (view terms t.old) seat }
-    ensures same { SameMemory t.new t.old }
-{
-    wake(terms, &mut *t, seat);
-    react(terms, t, seat);
-}
-
-// The wait of a seat ends, if it is due.
+// The wait of a seat ends, if it is due: the seat takes its final head, votes or rests, and reacts.
 fn end_if_due<R: Record>(terms: Terms, t: &mut Tables<R>, seat: u8)
-    requires { seat < terms.n }
     ensures is { view terms t.new ≡ end_due (setup_of terms t.old) R.Record.kind seat (view terms t.old) }
     ensures same { SameMemory t.new t.old }
 {
     if wait_due(terms, &*t, seat) {
-        end_wait(terms, t, seat);
+        wake(terms, &mut *t, seat);
+        react(terms, t, seat);
     }
 }
 

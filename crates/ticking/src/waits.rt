@@ -1,37 +1,25 @@
 //! A seat's wait: whether it is due to end, and its end.
-ghost use Rattle.std.specs.Prelude.{◌≡◌, ◌+◌, ◌*◌, true, leb, if◌then◌else◌, nat_le};
-ghost use Rattle.rules.specs.declared.rows.Phase.TheVariants.{Waiting, Voting, Resting};
-ghost use Rattle.rules.specs.Tables.{is_waiting, seat_at, entered_at};
+ghost use Rattle.std.specs.Prelude.{◌≡◌, ◌+◌, ◌*◌, nat_le};
+ghost use Rattle.rules.specs.declared.rows.Phase.TheVariants.{Waiting};
+ghost use Rattle.rules.specs.Tables.{seat_at, entered_at};
 ghost use Rattle.rules.specs.Seat.{wakes};
 ghost use Rattle.rules.specs.Calls.{wait_due};
 ghost use Rattle.tables.specs.View.{view, rows_of, setup_of, SameMemory};
 
 use crate::heads::next_head;
 use records::Record;
-use rules::rows::{Phase, SeatRow};
+use rules::rows::Phase;
 use tables::lent::Tables;
-use tables::reads::{entered_at, seat_row};
 use terms::terms::Terms;
 use writing::events::SeatEvent;
 use writing::phases::SeatSteps;
 use writing::writes::put_seat;
 
-// Whether a seat in this phase waits.
-pub(crate) fn is_waiting(phase: Phase) -> bool
-    ensures { result ≡ is_waiting phase }
-{
-    match phase {
-        Phase::Waiting => true,
-        Phase::Voting => false,
-        Phase::Resting => false,
-    }
-}
-
 // Whether two delays have passed since the seat entered this round.
 fn waited_out<R: Record>(terms: Terms, t: &Tables<R>, seat: u8, round: u16) -> bool
     ensures { result ≡ nat_le (entered_at (setup_of terms t.now) (view terms t.now) seat round + 2 * terms.delay) terms.clock }
 {
-    let entered = entered_at(terms, t, seat, round as u32);
+    let entered = t.entered_at(terms, seat, round as u32);
     entered as u64 + 2 * terms.delay as u64 <= terms.clock as u64
 }
 
@@ -39,21 +27,8 @@ fn waited_out<R: Record>(terms: Terms, t: &Tables<R>, seat: u8, round: u16) -> b
 pub(crate) fn wait_due<R: Record>(terms: Terms, t: &Tables<R>, seat: u8) -> bool
     ensures { result ≡ wait_due (setup_of terms t.now) (view terms t.now) seat }
 {
-    let row = seat_row(t, seat);
-    terms.is_honest(seat) && is_waiting(row.phase) && waited_out(terms, t, seat, row.round)
-}
-
-// The row of a waiting seat after its wait: it votes, or rests if it is past the last round.
-fn woken(row: SeatRow, head: u32, rounds: u16) -> SeatRow
-    requires { row.phase ≡ Waiting }
-    ensures { result ≡ record { round = row.round; phase = (if leb row.round rounds then Voting else Resting); head = head } }
-{
-    let mut moved = row;
-    moved.step(SeatEvent::WaitOver {
-        head,
-        past_last: rounds < row.round,
-    });
-    moved
+    let row = t.seat_row(seat);
+    terms.is_honest(seat) && row.phase == Phase::Waiting && waited_out(terms, t, seat, row.round)
 }
 
 // The wait of a seat is over: it takes its final head, and then votes, or rests if it is past the last round.
@@ -62,7 +37,9 @@ pub(crate) fn wake<R: Record>(terms: Terms, t: &mut Tables<R>, seat: u8)
     ensures is { view terms t.new ≡ wakes (setup_of terms t.old) R.Record.kind (view terms t.old) seat }
     ensures same { SameMemory t.new t.old }
 {
+    let mut row = t.seat_row(seat);
     let head = next_head(terms, &*t, seat);
-    let row = seat_row(&*t, seat);
-    put_seat(t, seat, woken(row, head, terms.rounds));
+    let past_last = terms.rounds < row.round;
+    row.step(SeatEvent::WaitOver { head, past_last });
+    put_seat(t, seat, row);
 }

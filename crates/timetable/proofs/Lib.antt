@@ -1,0 +1,2 @@
+mod Promised
+mod Growing

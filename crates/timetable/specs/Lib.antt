@@ -1,4 +1,3 @@
 pub mod Deadlines
 pub mod Promises
-pub mod Faults
 pub mod Text

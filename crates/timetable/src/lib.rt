@@ -30,30 +30,8 @@ fn longest_stay(byzantine: u8, delay: u16) -> u32
     (byzantine as u32 + 6) * delay as u32
 }
 
-// The deadlines as numbers.
-fn counted(roster: &Roster, delay: u16, round: u16) -> Result<Deadlines, BenchFault>
-    ensures { MatchResult result (λ d. (deadline_refusal delay round ≡ None) × (d.over_after ≡ last_tick_of (count_ones roster.now.marks) delay round) × (d.final_by ≡ final_at (count_ones roster.now.marks) delay round)) (λ e. deadline_refusal delay round ≡ Some e) }
-{
-    if delay == 0 || delay > MOST_DELAY {
-        return Err(BenchFault::DelayOutOfRange);
-    }
-    if round == 0 || round > MOST_ROUNDS {
-        return Err(BenchFault::RoundOutOfRange);
-    }
-    let stay = longest_stay(roster.byzantine_count(), delay);
-    Ok(Deadlines {
-        over_after: round as u32 * stay,
-        final_by: (round as u32 + 1) * stay + 2 * delay as u32,
-    })
-}
-
-// What the deadlines of a round promise, whatever the beacon, the record type and the calls.
-fn promised<R: Record>(roster: &Roster, delay: u16, round: u16)
-    ensures over { RoundOverAfter R.Record.kind roster.now delay round (last_tick_of (count_ones roster.now.marks) delay round) }
-    ensures leader_final { LeaderFinalBy R.Record.kind roster.now delay round (final_at (count_ones roster.now.marks) delay round) }
-{}
-
 /// The deadlines of a round, for every bench with this roster and delay, whatever its beacon, its record type and its calls.
+// Roster, delay and round are three parameters: a struct of them would be built for each call and taken apart in it.
 pub fn deadlines_of<R: Record>(
     roster: &Roster,
     delay: u16,
@@ -63,6 +41,15 @@ pub fn deadlines_of<R: Record>(
     ensures over { RoundOverAfter R.Record.kind roster.now delay round (last_tick_of (count_ones roster.now.marks) delay round) }
     ensures leader_final { LeaderFinalBy R.Record.kind roster.now delay round (final_at (count_ones roster.now.marks) delay round) }
 {
-    promised::<R>(roster, delay, round);
-    counted(roster, delay, round)
+    if !(1..=MOST_DELAY).contains(&delay) {
+        return Err(BenchFault::DelayOutOfRange);
+    }
+    if !(1..=MOST_ROUNDS).contains(&round) {
+        return Err(BenchFault::RoundOutOfRange);
+    }
+    let stay = longest_stay(roster.byzantine_count(), delay);
+    Ok(Deadlines {
+        over_after: round as u32 * stay,
+        final_by: (round as u32 + 1) * stay + 2 * delay as u32,
+    })
 }

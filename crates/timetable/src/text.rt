@@ -2,7 +2,7 @@
 ghost use Rattle.std.specs.Prelude.{◌≡◌, ◌≤◌, ◌++◌, None, string_bytes, MatchResult, count_ones};
 ghost use Rattle.timetable.specs.Promises.{deadline_refusal};
 ghost use Rattle.timetable.specs.Text.{round_line, timetable_lines, NoTimetable};
-ghost use Rattle.timetable.specs.declared.fault.TimetableFault.TheVariants.{Memory};
+ghost use Rattle.refusals.specs.declared.TextFault.TheVariants.{Memory};
 
 use crate::fault::TimetableFault;
 use crate::{Deadlines, deadlines_of};
@@ -31,26 +31,10 @@ fn write_round<R: Record>(
     Ok(())
 }
 
-// The rounds from 1 to `rounds`, a line each.
-fn write_rounds<R: Record>(
-    out: &mut String,
-    roster: &Roster,
-    delay: u16,
-    rounds: u16,
-) -> Result<(), TimetableFault>
-    requires { deadline_refusal delay rounds ≡ None }
-    ensures { MatchResult result (λ _. string_bytes out.new ≡ string_bytes out.old ++ timetable_lines (count_ones roster.now.marks) delay rounds) (λ e. e ≡ Memory) }
-{
-    for before in 0..rounds {
-        write_round::<R>(out, roster, delay, before + 1)?;
-    }
-    Ok(())
-}
-
 /// The deadlines of the rounds from 1 to `rounds`, a line each: the last tick at which an honest seat can be in the round, and
 /// the tick from which an honest leader's block of it is final everywhere.
 pub fn timetable<R: Record>(
-    heap: Global,
+    alloc: Global,
     roster: &Roster,
     delay: u16,
     rounds: u16,
@@ -58,7 +42,9 @@ pub fn timetable<R: Record>(
     ensures { MatchResult result (λ s. (deadline_refusal delay rounds ≡ None) × (string_bytes s ≡ timetable_lines (count_ones roster.now.marks) delay rounds)) (λ e. NoTimetable delay rounds e) }
 {
     deadlines_of::<R>(roster, delay, rounds)?;
-    let mut out = String::new(heap);
-    write_rounds::<R>(&mut out, roster, delay, rounds)?;
+    let mut out = String::new(alloc);
+    for round in 1..=rounds {
+        write_round::<R>(&mut out, roster, delay, round)?;
+    }
     Ok(out)
 }

@@ -2,7 +2,7 @@
 #![tactic(auto)]
 
 ghost use Rattle.std.specs.Prelude.{◌≡◌};
-ghost use Rattle.rules.specs.Weights.{chain_weight, weight_of};
+ghost use Rattle.rules.specs.Weights.{weight_of};
 ghost use Rattle.rules.specs.ParentChoice.{parent_choice};
 ghost use Rattle.tables.specs.View.{view, setup_of};
 ghost use Rattle.weighing.specs.Turns.{heavier_of};
@@ -11,30 +11,19 @@ use holding::notarised::holds_notarisation;
 use numbers::block_weight;
 use records::Record;
 use tables::lent::Tables;
-use tables::ranks::rank_of;
-use tables::reads::block_row;
 use terms::terms::Terms;
-
-// The weight of a block and those below it, `depth` blocks in all.
-fn chain_weight<R: Record>(terms: Terms, t: &Tables<R>, block: u32, depth: u32) -> u64
-    ensures { result ≡ chain_weight (setup_of terms t.now) depth t.now.blocks.now block }
-{
-    let mut sum = 0;
-    let mut at = block;
-    let mut left = depth;
-    while left > 0 {
-        sum += block_weight(rank_of(terms, t, at)) as u64;
-        at = block_row(t, at).parent;
-        left -= 1;
-    }
-    sum
-}
 
 // The weight of a block's chain, down to block 0, which weighs nothing.
 fn weight_of<R: Record>(terms: Terms, t: &Tables<R>, block: u32) -> u64
     ensures { result ≡ weight_of (setup_of terms t.now) (view terms t.now) block }
 {
-    chain_weight(terms, t, block, terms.round_of(block))
+    let mut sum = 0;
+    let mut at = block;
+    for _ in 0..terms.round_of(block) {
+        sum += block_weight(t.rank_of(terms, at)) as u64;
+        at = t.block_row(at).parent;
+    }
+    sum
 }
 
 // The block, if the seat holds a notarisation of it and its chain is heavier than that of `best`; else `best`.
@@ -61,11 +50,7 @@ pub fn parent_choice<R: Record>(
 ) -> u32
     ensures { result ≡ parent_choice (setup_of terms t.now) (view terms t.now) seat round lowest }
 {
-    let from = terms.round_start(round);
-    let width = terms.round_width();
-    let mut best = lowest;
-    for x in 0..width {
-        best = heavier(terms, t, seat, from + x as u32, best);
-    }
-    best
+    terms.blocks_of(round).fold(lowest, |best, block| {
+        heavier(terms, t, seat, block, best)
+    })
 }

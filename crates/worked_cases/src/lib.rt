@@ -15,8 +15,8 @@ pub fn worked_cases() -> u8
 
 #[cfg(test)]
 mod tests {
-    use drawing::fault::DrawFault;
-    use drawing::report::{refusal_line, report};
+    use drawing::fault::{DrawFault, DrawRefusal};
+    use drawing::report::{print_or_refuse, refusal_line, report};
     use drawing::seating::seat_all;
     use orders::wheel::Wheel;
     use orders::{Beacon, ranks_of, seats_by_rank};
@@ -104,7 +104,7 @@ mod tests {
                 Ok(text) => Ok(text),
                 Err(fault) => refusal_line(rt.alloc(), fault),
             },
-            Err(fault) => refusal_line(rt.alloc(), DrawFault::Roster(fault)),
+            Err(fault) => refusal_line(rt.alloc(), DrawRefusal::from(fault)),
         }
     }
 
@@ -128,6 +128,16 @@ mod tests {
             draw_line(&rt, 1, &[], 1)?.as_str()
                 == "seats 1, Byzantine 0 of at most 0, majority 1\nround 1 leader 0 honest order 0\nrounds 1, led by honest seats 1\n"
         );
+        Ok(())
+    }
+
+    #[test]
+    fn only_a_printed_text_is_success(rt: HostRuntime) -> Result<(), Fail> {
+        let roster = seat_all(1, &[])?;
+        let text = report(rt.alloc(), &roster, &Wheel::new(1), 1);
+        assert!(rt; print_or_refuse(&rt, rt.alloc(), text, "nothing").is_ok());
+        let refused = Err(DrawFault::Refused(DrawRefusal::Rounds));
+        assert!(rt; print_or_refuse(&rt, rt.alloc(), refused, "nothing").is_err());
         Ok(())
     }
 }

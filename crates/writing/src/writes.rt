@@ -7,13 +7,13 @@ ghost use Rattle.writing.specs.Writes.{with_block_row, with_record, with_draft, 
 use records::Record;
 use rules::rows::{BlockRow, CertificateRow, ReceivedRow, SeatRow, VoteRow};
 use tables::lent::Tables;
-use tables::reads::{received_row, vote_row};
 use terms::terms::Terms;
 
 // Writes a row, if the table has that place.
 fn put<T: Copy>(rows: &mut [T], at: usize, row: T)
     ensures { rows.new ≡ slice_set rows.old at row }
 {
+    // By index, since the library does not say what a slice ends as after `get_mut`.
     if at < rows.len() {
         rows[at] = row;
     }
@@ -64,7 +64,7 @@ pub fn put_certificate<R: Record>(
 {
     put(
         &mut *t.certificates,
-        seat as usize * terms.rounds as usize + past as usize,
+        terms.certificate_place(seat, u32::from(past)),
         row,
     );
 }
@@ -74,20 +74,11 @@ pub fn put_vote<R: Record>(terms: Terms, t: &mut Tables<R>, seat: u8, block: u32
     ensures is { view terms t.new ≡ with_vote (setup_of terms t.old) (view terms t.old) seat block }
     ensures same { SameMemory t.new t.old }
 {
-    let old = vote_row(terms, &*t, seat, block);
-    let row = if old.sent {
-        old
-    } else {
-        VoteRow {
-            sent: true,
-            tick: terms.clock,
-        }
+    let old = t.vote_row(terms, seat, block);
+    let row = VoteRow {
+        sent: Some(old.sent.unwrap_or(terms.clock)),
     };
-    put(
-        &mut *t.votes,
-        block as usize * terms.n as usize + seat as usize,
-        row,
-    );
+    put(&mut *t.votes, terms.seat_place(block, seat), row);
 }
 
 /// A seat receives signatures on a block.
@@ -95,16 +86,12 @@ pub fn receive<R: Record>(terms: Terms, t: &mut Tables<R>, seat: u8, block: u32,
     ensures is { view terms t.new ≡ receives (setup_of terms t.old) (view terms t.old) seat block signers }
     ensures same { SameMemory t.new t.old }
 {
-    let old = received_row(terms, &*t, seat, block);
+    let old = t.received_row(terms, seat, block);
     let row = ReceivedRow {
-        held: old.held,
         signers: old.signers | signers,
+        ..old
     };
-    put(
-        &mut *t.received,
-        block as usize * terms.n as usize + seat as usize,
-        row,
-    );
+    put(&mut *t.received, terms.seat_place(block, seat), row);
 }
 
 /// A seat holds a block from now on.
@@ -112,14 +99,7 @@ pub fn hold<R: Record>(terms: Terms, t: &mut Tables<R>, seat: u8, block: u32)
     ensures is { view terms t.new ≡ holds (setup_of terms t.old) (view terms t.old) seat block }
     ensures same { SameMemory t.new t.old }
 {
-    let old = received_row(terms, &*t, seat, block);
-    let row = ReceivedRow {
-        held: true,
-        signers: old.signers,
-    };
-    put(
-        &mut *t.received,
-        block as usize * terms.n as usize + seat as usize,
-        row,
-    );
+    let old = t.received_row(terms, seat, block);
+    let row = ReceivedRow { held: true, ..old };
+    put(&mut *t.received, terms.seat_place(block, seat), row);
 }

@@ -1,21 +1,15 @@
-use mathlib.Core.Path.{ap}
-use Prim.Native.Nat.{ℕ, ◌+◌}
 use borrow.Author.Rules.{rules}
-use Rattle.rules.specs.Loops.{upto}
+use borrow.Author.Tests.{tests}
+use Rattle.rules.specs.ParentChoice.{parent_choice}
+use Rattle.rules.specs.Setup.{round_start, round_width}
 use Rattle.tables.specs.View.{view, setup_of}
-use Rattle.weighing.proofs.Laws.{choice_is, heavier_more}
+use Rattle.terms.proofs.Blocks.{fold_by}
+use Rattle.weighing.specs.Turns.{heavier_of}
 use Rattle.weighing.proofs.parent_choice.Goals as goal
 
-pub loop-x-init : goal.loop-x-init
-unfolding upto
-loop-x-init g c = search rules
-
-pub loop-x-preserved : goal.loop-x-preserved
-loop-x-preserved g c =
-    heavier_more (setup_of c.args.terms c.args.t.now) (view c.args.terms c.args.t.now) c.args.seat c.args.round c.args.lowest c.loop-x.x (c.round_start-from.result + c.loop-x.x) c.loop-x.best c.heavier-best.result
-    (ap (λ (y : ℕ). y + c.loop-x.x) (c.round_start-from.ensures.is c.args.t.now.orders.now)) c.loop-x.invariant c.heavier-best.ensures
-
 pub returns : goal.returns
+unfolding parent_choice
 returns g c =
-    let e = choice_is (setup_of c.args.terms c.args.t.now) (view c.args.terms c.args.t.now) c.args.seat c.args.round c.args.lowest c.loop-x.x (search rules) in
-    search rules
+    let s = setup_of c.args.terms c.args.t.now in
+    fold_by c.blocks_of.result (round_start s c.args.round) (round_width s) (c.blocks_of.ensures.first c.args.t.now.orders.now) c.blocks_of.ensures.count
+    (heavier_of s (view c.args.terms c.args.t.now) c.args.seat) _ c.args.lowest c.fold.result c.fold.ensures.ran (λ a x b q k. search (rules, tests))

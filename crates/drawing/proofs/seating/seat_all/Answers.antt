@@ -4,15 +4,15 @@ use Rattle.drawing.proofs.seating.seat_all.Goals as goal
 
 pub returns-in_err-mark : goal.returns-in_err-mark
 returns-in_err-mark c =
-    let step = marked_step c.args.n c.loop-s.roster.marks c.args.byzantine.now c.loop-s.s-index (search rules) in
+    let step = marked_step c.args.n c.loop-seat.roster.marks c.args.byzantine.now c.loop-seat.seat-index (search rules) in
     search rules
 
-pub loop-s-preserved : goal.loop-s-preserved
-loop-s-preserved c =
-    let step = marked_step c.args.n c.loop-s.roster.marks c.args.byzantine.now c.loop-s.s-index (search rules) in
+pub loop-seat-preserved : goal.loop-seat-preserved
+loop-seat-preserved c =
+    let step = marked_step c.args.n c.loop-seat.roster.marks c.args.byzantine.now c.loop-seat.seat-index (search rules) in
     search rules
 
 pub returns : goal.returns
 returns c =
-    let end = marked_end c.args.n c.loop-s.roster.marks c.args.byzantine.now c.loop-s.s-index (search rules) in
+    let end = marked_end c.args.n c.loop-seat.roster.marks c.args.byzantine.now c.loop-seat.seat-index (search rules) in
     search rules

@@ -3,8 +3,8 @@ use Rattle.std.proofs.lemmas.List.{take_all}
 use Rattle.drawing.proofs.Growing.{seats_more}
 use Rattle.drawing.proofs.words.seat_words.Goals as goal
 
-pub loop-s-preserved : goal.loop-s-preserved
-loop-s-preserved c = search (rules, seats_more)
+pub loop-seat-preserved : goal.loop-seat-preserved
+loop-seat-preserved c = search (rules, seats_more)
 
 pub returns : goal.returns
 returns c = search (rules, take_all)

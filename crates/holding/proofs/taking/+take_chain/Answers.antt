@@ -1,13 +1,7 @@
 use borrow.Author.Rules.{rules}
 use Rattle.tables.specs.View.{view}
-use Rattle.holding.proofs.Laws.{taken_none, taken_held, taken_open}
+use Rattle.holding.proofs.Laws.{taken_open}
 use Rattle.holding.proofs.taking.+take_chain.Goals as goal
-
-pub returns-then-round-eq0 : goal.returns-then-round-eq0
-returns-then-round-eq0 g t c =
-    let e = taken_none c.args.terms.n c.args.round (view c.args.terms c.args.t.now) c.args.seat c.args.block in
-    let f = taken_held c.args.terms.n c.args.round (view c.args.terms c.args.t.now) c.args.seat c.args.block in
-    search rules
 
 pub returns : goal.returns
 returns g t c =

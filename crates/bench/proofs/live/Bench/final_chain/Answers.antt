@@ -1,10 +1,5 @@
-use Rattle.std.proofs.Common.{rules}
 use Rattle.bench.proofs.Listings.{shows_final_blocks}
 use Rattle.bench.proofs.live.Bench.final_chain.Goals as goal
 
-pub returns : goal.returns
-returns g c = record {
-  answer = search rules;
-  buffer = search rules;
-  shows = shows_final_blocks g.R.Record.kind g.met.R.Record.idle_follows _ _ _;
-}
+pub returns-clause-shows : goal.returns-clause-shows
+returns-clause-shows g c = shows_final_blocks g.R.Record.kind g.met.R.Record.idle_follows _ _ _
