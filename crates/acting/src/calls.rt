@@ -6,6 +6,7 @@ use crate::effects::{plant_block, sign_block, take_block, take_message};
 use checking::byzantine::{check_plant, check_sign};
 use checking::messages::{check_block, check_certificate, check_vote};
 use checking::seats::check_honest;
+use numbers::seat_set::SeatSet;
 use records::Record;
 use rules::fault::BenchFault;
 use tables::lent::Tables;
@@ -54,7 +55,7 @@ pub fn deliver_vote<R: Record>(
     ensures { ByTheRules R.Record.kind (vote_call voter seat block) result terms terms t.old t.new }
 {
     check_vote(terms, t, voter, seat, block)?;
-    take_message(terms, t, seat, block, 1 << voter);
+    take_message(terms, t, seat, block, SeatSet::only(voter).bits());
     Ok(())
 }
 

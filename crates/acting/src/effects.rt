@@ -6,6 +6,7 @@ ghost use Rattle.acting.specs.Effects.{block_taken, message_taken, planted, sign
 
 use holding::signatures::signers;
 use holding::taking::take_in;
+use numbers::seat_set::SeatSet;
 use reacting::reaction::react;
 use records::Record;
 use rules::rows::BlockRow;
@@ -72,5 +73,5 @@ pub(crate) fn sign_block<R: Record>(terms: Terms, t: &mut Tables<R>, seat: u8, b
 {
     put_vote(terms, t, seat, block);
     take_in(terms, t, seat, block);
-    receive(terms, t, seat, block, 1 << seat);
+    receive(terms, t, seat, block, SeatSet::only(seat).bits());
 }

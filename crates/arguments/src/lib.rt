@@ -53,6 +53,7 @@ pub fn number(word: &str) -> Option<u64>
 }
 
 /// A count in a smaller type; the largest that it holds where it does not fit.
+// Not refused here: the largest is past every limit of the library, which refuses it in its own order and by its own number.
 pub fn clamped<T: Count>(count: u64) -> T
     ensures { T.value result ≡ min count (T.value T.LARGEST) }
 {

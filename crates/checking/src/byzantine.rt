@@ -5,6 +5,7 @@ ghost use Rattle.tables.specs.View.{view, setup_of};
 ghost use Rattle.checking.specs.Checks.{place_check, parent_check, plant_check, sign_check};
 
 use crate::seats::{check_byzantine, check_tables};
+use holding::notarised::is_quorum;
 use holding::signatures::signers;
 use records::Record;
 use rules::fault::BenchFault;
@@ -60,7 +61,7 @@ fn check_parent<R: Record>(
     if terms.round_of(parent) as u64 + 1 != round as u64 {
         return Err(BenchFault::WrongParent);
     }
-    if parent == 0 || terms.quorum as u32 <= signers(terms, t, parent).count_ones() {
+    if parent == 0 || is_quorum(terms, signers(terms, t, parent)) {
         Ok(())
     } else {
         Err(BenchFault::WrongParent)

@@ -31,8 +31,9 @@ pub(crate) fn check_tables<R: Record>(terms: Terms, t: &Tables<R>) -> Result<(),
 }
 
 /// The seat has to be honest, and the tables have to fit.
-// That an accepted seat is one of the bench's stands here, and in the other public checks. A type for such a seat would have to
-// hold the bench's numbers too, since `terms.n` is its limit, and every check would answer one in place of nothing.
+// That an accepted seat is one of the bench's stands here, and in the other public checks but that of planting. A type for such
+// a seat would have to hold the bench's numbers too, since `terms.n` is its limit, and every check would answer one in place of
+// nothing.
 pub fn check_honest<R: Record>(terms: Terms, t: &Tables<R>, seat: u8) -> Result<(), BenchFault>
     ensures is { result ≡ honest_check (setup_of terms t.now) (view terms t.now) seat }
     ensures seat { OnOk result (seat < terms.n) }

@@ -31,6 +31,7 @@ example: draw 4 2 shuffle 7 6
 fn drawn(alloc: Global, request: &Request) -> Result<String, DrawFault> {
     let roster = seat_all(request.seats, request.byzantine.as_slice()).map_err(DrawRefusal::from)?;
     let rounds = round_count(request.rounds)?;
+    // Two calls, since the beacons are two types.
     match request.beacon {
         Beacons::Wheel => report(alloc, &roster, &Wheel::new(request.seats), rounds),
         Beacons::Shuffle(seed) => {

@@ -18,6 +18,7 @@ pub fn has_vote<R: Record>(terms: Terms, t: &Tables<R>, voter: u8, block: u32, s
 }
 
 /// Whether a seat has all that a certificate says: its block, and its signatures on it.
+// Block and signatures and not the row: the tick is no part of what a receiver can lack.
 pub fn has_certificate<R: Record>(
     terms: Terms,
     t: &Tables<R>,

@@ -11,7 +11,7 @@ pub mod search;
 pub mod seats;
 pub mod wheel;
 
-/// The answer for a seat or a round that a beacon does not cover. A number and no `None`: every beacon has to answer it.
+/// The answer for a seat or a round that a beacon does not cover. A number and no `None`: the rules say 16 there.
 pub const NO_RANK: u8 = 16;
 
 /// A beacon gives, for one seat count and each round from 1 to its last, an order of the seats.
@@ -46,6 +46,7 @@ pub trait Beacon {
 }
 
 /// A round's order by value: the rank of each seat, 0 past the last seat.
+// Sixteen places for any seat count: the row that a caller lends for a round has as many, and no heap is needed.
 pub fn ranks_of<B: Beacon>(beacon: &B, round: u16) -> [u8; 16]
     ensures row { result ≡ order_row (B.ranking beacon.now) round }
     ensures order { 1 ≤ round → round ≤ (B.ranking beacon.now).rounds → Order (B.ranking beacon.now).seats (λ s. slice_index result s) }

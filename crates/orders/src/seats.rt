@@ -14,6 +14,7 @@ pub struct SeatCount {
 
 impl SeatCount {
     /// A number outside 1 to 16 is taken as 1.
+    // Not refused: the rules take such a number as 1, and making a beacon cannot fail.
     pub fn new(n: u8) -> SeatCount
         ensures { result.n ≡ seat_count n }
     {

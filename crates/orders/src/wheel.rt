@@ -29,6 +29,7 @@ impl Beacon for Wheel {
 
     ghost lawful = { λ w. record { some = w.seats.some; sixteen = w.seats.sixteen; orders = λ r h k. wheel_order w.seats.n r w.seats.some } };
 
+    // Said by each beacon: a trait cannot read a field of its types, and the last round is a beacon's own.
     fn seat_count(&self) -> u8 {
         self.seats.get()
     }

@@ -1,5 +1,5 @@
 //! The blocks that a seat votes for: of the valid blocks of its round that it holds, those of lowest rank.
-//! `ranks` is the order of that round, by value.
+//! `ranks` is the order of that round, by value: that is a rule here for what votes go by.
 ghost use Rattle.std.specs.Prelude.{◌≡◌, ◌≤◌, [], IfSome};
 ghost use Rattle.rules.specs.Loops.{first_from};
 ghost use Rattle.rules.specs.Setup.{setup_with, block_round, round_start, round_width};

@@ -5,6 +5,7 @@ ghost use Rattle.std.specs.Prelude.{◌<◌};
 #[derive(Clone, Copy)]
 pub(crate) struct Voter {
     pub(crate) seat: u8,
+    // the round before its own
     pub(crate) past: u16,
     ghost seat_small: { seat < 16 },
     ghost past_small: { past < 256 },

@@ -6,11 +6,13 @@ ghost use Rattle.reacting.specs.Turns.{vote_by, votes_by};
 
 use crate::choice::{first_valid, holds_valid, lowest_rank, rank_in};
 use crate::voter::Voter;
+use numbers::seat_set::SeatSet;
 use records::Record;
 use tables::lent::Tables;
 use terms::terms::Terms;
 use writing::writes::{put_vote, receive};
 
+// Each also promises that the seats' rows stay (`seats`): leaving a round needs the seat's phase, without a look into the votes.
 impl Voter {
     // The seat votes for a block that it holds, if the block is valid and of rank `low`; it receives its own signature.
     fn vote_if_lowest<R: Record>(
@@ -27,7 +29,8 @@ impl Voter {
     {
         if holds_valid(terms, &*t, self.seat, block) && rank_in(terms, ranks, block) == low {
             put_vote(terms, &mut *t, self.seat, block);
-            receive(terms, &mut *t, self.seat, block, 1 << self.seat);
+            let own = SeatSet::only(self.seat).bits();
+            receive(terms, &mut *t, self.seat, block, own);
         }
     }
 

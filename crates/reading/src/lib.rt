@@ -34,6 +34,7 @@ fn write_chain<R: Record>(t: &Tables<R>, head: u32, chain: &mut [u32])
 }
 
 /// The final chain of an honest seat, the oldest block first, to the start of the buffer; answers how many blocks it has.
+// Into the caller's buffer: there is no heap to make a `Vec` in.
 pub fn read_chain<R: Record>(
     terms: Terms,
     t: &Tables<R>,

@@ -12,6 +12,7 @@ pub trait Record: Copy {
     ghost kind: { Kind Self };
 
     /// The record of block 0.
+    // Not `Default`: what block 0 carries is part of what a kind means.
     fn first() -> Self
         ensures { result ≡ kind.first };
 

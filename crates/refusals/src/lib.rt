@@ -14,6 +14,7 @@ pub trait Refusal: Copy {
     ghost sentence: { Self → List ℕ };
 
     /// The number that the refusal is printed with.
+    // Each type says it by a match, with no numbers on its variants: a refusal can hold another's, and two can have one number.
     fn number(self) -> u8
         ensures { result ≡ number self };
 
@@ -72,6 +73,7 @@ impl<F: Refusal> Refusal for TextFault<F> {
     fn number(self) -> u8 {
         match self {
             TextFault::Refused(fault) => fault.number(),
+            // It is printed as a refusal is, so it has a number: 0, which is none of the rules'.
             TextFault::Memory => 0,
         }
     }

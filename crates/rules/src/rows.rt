@@ -1,7 +1,8 @@
 //! The rows of the tables that a bench keeps. The default row is the blank one, which also stands for what lies past a table's end.
 //!
-//! Sets of seats lie in the rows as numbers of 16 bits, and `numbers::seat_set::SeatSet` takes them apart: the check has no proof yet of
-//! code that hands a row on and uses it again where one of its fields is such a set.
+//! Sets of seats lie in the rows as numbers of 16 bits, and go from row to row and are counted as such; where one seat is asked for,
+//! `numbers::seat_set::SeatSet` takes them apart. As the sets themselves they cannot lie there: the check has no proof yet of code that
+//! hands a row on and uses it again where one of its fields is such a set.
 
 use std::mem::size_of;
 
@@ -20,7 +21,7 @@ pub enum Phase {
 /// One row for each block number.
 #[derive(Clone, Copy, PartialEq, Eq, Debug, Default, Drop)]
 pub struct BlockRow {
-    /// The number of the block that it stands on.
+    /// The number of the block that it stands on, which is its place in the tables: they are lent, so there is no heap for a `Box`.
     pub parent: u32,
     /// The signatures on the parent that it carries: bit s is seat s.
     pub carried: u16,

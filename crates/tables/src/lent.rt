@@ -1,10 +1,11 @@
 //! The tables of a bench, in memory that its caller lends.
 use rules::rows::{BlockRow, CertificateRow, ReceivedRow, SeatRow, VoteRow};
 
-/// Eight tables; R is the record type. They lie side by side, since the caller lends the memory of each, of a length of its own.
+/// Eight tables; R is the record type. Each is memory that the caller lends, so that a bench needs no heap.
+// Tables of one length stay apart: what rows there are is promised to whoever lends them, and R is the caller's type.
 // The numbers of the bench, `Terms`, go beside the tables and not in one struct with them. The tables are lent anew with each
 // call, shared to what reads and alone to what drives, so there would have to be two such structs. And the check has no proof yet
-// of reading a row through a `&` to a struct that holds the loan, so their methods could only call a function of both again.
+// of reading a row through a `&` to a struct that holds the loan: methods of such a struct could only call a function of both again.
 #[derive(Drop)]
 pub struct Tables<'a, R> {
     /// For each block.

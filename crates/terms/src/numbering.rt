@@ -76,6 +76,7 @@ impl Terms {
     }
 
     /// How many blocks there can be, block 0 included.
+    // As `Size::block_count`, as the length of a table: a bench has these numbers and no `Size`.
     pub fn block_rows(self) -> usize
         ensures is { result ≡ block_rows (setup_with (bench_of_terms self) []) }
         ensures most { result ≤ 32769 }
@@ -98,6 +99,7 @@ impl Terms {
     }
 
     /// Whether a seat is one of the bench's, and not Byzantine.
+    // As `Roster::is_honest`: a bench has the numbers of its roster and not the roster itself.
     pub fn is_honest(self, seat: u8) -> bool
         ensures { result ≡ is_honest self.n self.marks seat }
     {

@@ -3,6 +3,7 @@ ghost use Rattle.std.specs.Prelude.{◌*◌, ◌^◌, ◌<◌, ◌≤◌};
 ghost use Rattle.std.specs.Int.Count.{ones};
 
 /// The numbers of a bench, and its clock. The limits are part of the type, so nothing that takes them has to ask.
+// Each number by itself, and no `Size` or `Plan` inside: the definitions of the rules name them one by one.
 #[derive(Clone, Copy)]
 pub struct Terms {
     /// How many seats there are.

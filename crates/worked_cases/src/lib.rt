@@ -100,10 +100,9 @@ mod tests {
         rounds: u16,
     ) -> Result<String, AllocError> {
         match seat_all(n, byzantine) {
-            Ok(roster) => match report(rt.alloc(), &roster, &Wheel::new(n), rounds) {
-                Ok(text) => Ok(text),
-                Err(fault) => refusal_line(rt.alloc(), fault),
-            },
+            Ok(roster) => report(rt.alloc(), &roster, &Wheel::new(n), rounds).or_else(
+                |fault| refusal_line(rt.alloc(), fault),
+            ),
             Err(fault) => refusal_line(rt.alloc(), DrawRefusal::from(fault)),
         }
     }

@@ -7,6 +7,7 @@ use crate::events::SeatEvent;
 use rules::rows::{Phase, SeatRow};
 
 /// What moves through the rounds: `after` is what it is after an event.
+// A trait, since only the crate of a type can give it methods of its own.
 pub trait SeatSteps {
     ghost after: { Self → EventOfSeat → Self };
 

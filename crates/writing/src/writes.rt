@@ -1,4 +1,6 @@
 //! Writing a row of the tables. A write past the end of a table changes nothing.
+//!
+//! Each promises `SameMemory` too: that is about the tables before and after, which the type of one value cannot say.
 ghost use Rattle.std.specs.Prelude.{◌≡◌, slice_set};
 ghost use Rattle.rules.specs.Holding.{receives};
 ghost use Rattle.tables.specs.View.{view, rows_of, setup_of, SameMemory};
