@@ -47,7 +47,6 @@ def functions():
         for m in re.finditer(r"(?m)^( *)(?:pub(?:\(crate\))? |final )*fn (\w+)", body_text):
             indent, name = m.group(1), m.group(2)
             end = re.search(r"(?m)^" + indent + r"\}$", body_text[m.start():])
-            semi = re.search(r";\n", body_text[m.start():])
             whole = body_text[m.start():m.start() + end.end()] if end else ""
             one_line = re.match(r"[^\n]*\{\}\n", body_text[m.start():])
             if one_line or not whole:
@@ -59,7 +58,10 @@ def functions():
             parts = re.split(r"(?m)^" + indent + r"\{$", whole, maxsplit=1)
             if len(parts) < 2:
                 parts = re.split(r"\{\n", whole, maxsplit=1)
-            if len(parts) < 2 or ";\n" in parts[0] and "ensures" in parts[0] and semi and semi.start() < len(parts[0]) and "{\n" not in parts[0]:
+            if len(parts) < 2:
+                continue
+            # a trait's function without a body ends in a semicolon
+            if ";\n" in parts[0] and "{\n" not in parts[0]:
                 continue
             yield path, name, names, parts[0], parts[1].rstrip()[:-1].strip()
 
@@ -122,24 +124,26 @@ def pairs():
     return [f"{a}, {b}: {k} functions" for (a, b), k in together.most_common() if k > 4]
 
 
-show(1, "enums of our own", lines(r"^\s*(pub )?enum "))
-show(1, "flags in a struct or a variant", lines(r"^\s*(pub )?\w+: bool,|\w+: bool \}"))
-show(1, "a number in place of an absence or a refusal",
-     lines(r"^\s*(///|//).*\b(0|1|16|n|the largest|false|past the last)\b.*\b(where|outside|for block 0|for no|for want)\b", True))
-show(2, "functions with the same body", twins())
-show(2, "functions of one name in two files", same_names())
-show(2, "functions that only hand their parameters on", hand_ons())
-show(3, "while and loop", lines(r"\b(while|loop)\b"))
-show(3, "for over a range of numbers", lines(r"\bfor \w+ in .*\.\."))
-show(3, "an index made from a loop's number", lines(r"\[\w+ as usize\]|\[i\]"))
-show(4, "rows written out field by field", lines(r"\b(Block|Seat|Received|Vote|Certificate)Row \{|row: \w+Row \{|blank = \w+ \{"))
-show(4, "match with only true and false, or only Some and None handed on", lines(r"=> (true|false),|None => None,|Err\(_\) => None"))
-show(4, "numbers and sentences of an enum", lines(r"fn (number|sentence|numbered_line|refusal_line|side_word)\b"))
-show(4, "conversions between numbers by hand", lines(r"\.min\(\d+\) as|> \d+ \{ 0 \}"))
-show(5, "a fact required by three or more functions", repeated_requires())
-show(5, "a fact promised on Ok by three or more functions", repeated_answers())
-show(5, "parameters together in five or more functions", pairs())
-show(6, "a buffer of sixteen with its length beside", lines(r"\[u8; 16\].*\bn: u8|n: u8.*\[u8; 16\]|\.\.n as usize\]"))
-show(6, "tables side by side", lines(r"&'a mut \["))
-show(7, "fn pointers, dyn and closures", lines(r"\bfn\(|\bdyn\b|impl Fn|: Fn"))
+for point, kind, places in [
+    (1, "enums of our own", lines(r"^\s*(pub )?enum ")),
+    (1, "flags in a struct or a variant", lines(r"^\s*(pub )?\w+: bool,|\w+: bool \}")),
+    (1, "a number in place of an absence or a refusal", lines(r"^\s*(///|//).*\b(0|1|16|n|the largest|false|past the last)\b.*\b(where|outside|for block 0|for no|for want)\b", True)),
+    (2, "functions with the same body", twins()),
+    (2, "functions of one name in two files", same_names()),
+    (2, "functions that only hand their parameters on", hand_ons()),
+    (3, "while and loop", lines(r"\b(while|loop)\b")),
+    (3, "for over a range of numbers", lines(r"\bfor \w+ in .*\.\.")),
+    (3, "an index made from a loop's number", lines(r"\[\w+ as usize\]|\[i\]")),
+    (4, "rows written out field by field", lines(r"\b(Block|Seat|Received|Vote|Certificate)Row \{|row: \w+Row \{|blank = \w+ \{")),
+    (4, "match with only true and false, or only Some and None handed on", lines(r"=> (true|false),|None => None,|Err\(_\) => None")),
+    (4, "numbers and sentences of an enum", lines(r"fn (number|sentence|numbered_line|refusal_line|side_word)\b")),
+    (4, "conversions between numbers by hand", lines(r"\.min\(\d+\) as|> \d+ \{ 0 \}")),
+    (5, "a fact required by three or more functions", repeated_requires()),
+    (5, "a fact promised on Ok by three or more functions", repeated_answers()),
+    (5, "parameters together in five or more functions", pairs()),
+    (6, "a buffer of sixteen with its length beside", lines(r"\[u8; 16\].*\bn: u8|n: u8.*\[u8; 16\]|\.\.n as usize\]")),
+    (6, "tables side by side", lines(r"&'a mut \[")),
+    (7, "fn pointers, dyn and bounds on closures", lines(r"\bfn\(|\bdyn\b|impl Fn|: Fn")),
+]:
+    show(point, kind, places)
 print("8  lines of proofs: " + str(sum(len(p.read_text().split("\n")) - 1 for p in top.glob("crates/*/proofs/**/*.antt"))))
