@@ -16,7 +16,7 @@ use Rattle.rules.specs.Seat.{react}
 use Rattle.rules.specs.Overdue.{certificate_sent}
 use Rattle.rules.specs.Calls.{Outcome, done, refused, offer, deliver_block, deliver_vote, deliver_certificate, plant, sign}
 use Rattle.writing.specs.Writes.{with_draft}
-use Rattle.reacting.proofs.PastTheRounds.{on_fitting}
+use Rattle.reacting.proofs.PastTheRounds.{seat_on_fitting}
 use Rattle.checking.specs.Checks.{Answer, and_then, seat_check, honest_check, block_check, vote_check, certificate_check, plant_check, sign_check}
 use Rattle.acting.specs.Effects.{block_taken, message_taken, planted, signed}
 
@@ -149,14 +149,14 @@ module _ {A : Type 0} (s : Setup) (K : Kind A) (t : Tables A) (some : 1 ≤ s.qu
   block_by_rules =
       let e = received_long s t (fits_if_ok s t j ok) in
       let l = take_in_long s.n (block_round s b) t.blocks t.received j b in
-      on_fitting s K (takes_in s t j b) j (seat_if_ok s t j ok) some (omega arith)
+      seat_on_fitting s K (takes_in s t j b) j (seat_if_ok s t j ok) some (omega arith)
 
   message_by_rules : (m : ℕ) → message_taken s K t j b m ≡ react s K (receives s (takes_in s t j b) j b m) j
   message_by_rules m =
       let e = received_long s t (fits_if_ok s t j ok) in
       let l = take_in_long s.n (block_round s b) t.blocks t.received j b in
       let k = length-set (takes_in s t j b).received (b * s.n + j) (receive_row m (received_at s (takes_in s t j b) j b)) in
-      on_fitting s K (receives s (takes_in s t j b) j b m) j (seat_if_ok s t j ok) some (omega arith)
+      seat_on_fitting s K (receives s (takes_in s t j b) j b m) j (seat_if_ok s t j ok) some (omega arith)
 
 -- the signature of seat i alone, as a set
 pub one_signer : (i : ℕ) → i < 16 → (1 * 2 ^ i) % 65536 ≡ 2 ^ i

@@ -3,11 +3,11 @@
 
 mod request;
 
-use drawing::fault::{DrawFault, DrawRefusal};
+use drawing::fault::DrawFault;
 use drawing::report::{print_or_refuse, report};
 use drawing::seating::seat_all;
 use orders::wheel::Wheel;
-use request::{Beacons, Request, asks_for_help, read_request, round_count};
+use request::{Beacons, Request, asks_for_help, read_request};
 use shuffle::Shuffle;
 use std::alloc::Global;
 use std::env;
@@ -29,14 +29,16 @@ example: draw 4 2 shuffle 7 6
 
 // The drawing that was asked for.
 fn drawn(alloc: Global, request: &Request) -> Result<String, DrawFault> {
-    let roster = seat_all(request.seats, request.byzantine.as_slice()).map_err(DrawRefusal::from)?;
-    let rounds = round_count(request.rounds)?;
+    let roster = seat_all(request.seats, request.byzantine.as_slice())?;
     // Two calls, since the beacons are two types.
     match request.beacon {
-        Beacons::Wheel => report(alloc, &roster, &Wheel::new(request.seats), rounds),
-        Beacons::Shuffle(seed) => {
-            report(alloc, &roster, &Shuffle::new(seed, request.seats), rounds)
-        }
+        Beacons::Wheel => report(alloc, &roster, &Wheel::new(request.seats), request.rounds),
+        Beacons::Shuffle(seed) => report(
+            alloc,
+            &roster,
+            &Shuffle::new(seed, request.seats),
+            request.rounds,
+        ),
     }
 }
 

@@ -1,10 +1,8 @@
 //! What the arguments ask for.
-ghost use Rattle.std.specs.Prelude.{◌≡◌, ◌<◌, true, length, OnOk, MatchResult};
-ghost use Rattle.drawing.specs.declared.fault.DrawRefusal.TheVariants.{Rounds};
+ghost use Rattle.std.specs.Prelude.{◌≡◌, ◌<◌, true, length, if◌then◌else◌, OnOk, nat_lt};
 
 use anyhow::anyhow;
 use arguments::{clamped, number};
-use drawing::fault::DrawRefusal;
 use std::alloc::Global;
 
 /// Which beacon draws the orders.
@@ -14,20 +12,21 @@ pub enum Beacons {
     Shuffle(u64),
 }
 
-/// What to draw. Seats too large for their type are the largest that it has: the roster refuses them, in its own order.
+/// What to draw. Seats too large for their type are the largest that it has, and too many rounds are 0: the library refuses
+/// both, in its own order.
 #[derive(Drop)]
 pub struct Request {
     pub seats: u8,
     pub byzantine: Vec<u8>,
     pub beacon: Beacons,
-    pub rounds: u64,
+    pub rounds: u16,
 }
 
-/// A number of rounds. More than any beacon covers are refused as the drawing refuses them.
-pub fn round_count(count: u64) -> Result<u16, DrawRefusal>
-    ensures { MatchResult result (λ r. r ≡ count) (λ e. (65535 < count) × (e ≡ Rounds)) }
+// A number of rounds; 0, which no beacon covers, where there are too many. No absence: the report refuses both alike.
+fn round_count(count: u64) -> u16
+    ensures { result ≡ (if nat_lt 65535 count then 0 else count) }
 {
-    u16::try_from(count).map_err(|_| DrawRefusal::Rounds)
+    u16::try_from(count).unwrap_or(0)
 }
 
 fn needed(word: &str) -> anyhow::Result<u64> {
@@ -55,7 +54,7 @@ fn parts(
         seats: clamped(needed(n)?),
         byzantine: seats(alloc, byzantine)?,
         beacon,
-        rounds: needed(rounds)?,
+        rounds: round_count(needed(rounds)?),
     })
 }
 

@@ -6,10 +6,8 @@ use Rattle.orders.specs.Ranking.{Ranking, seat_of_rank}
 use Rattle.orders.specs.Rows.{numbers, row_of_sixteen}
 use Rattle.roster.specs.Marks.{is_honest}
 use Rattle.drawing.specs.Leaders.{leader_of, honest_led, beacon_fits}
-use Rattle.refusals.specs.declared.TextFault.{TextFault}
-use Rattle.refusals.specs.declared.TextFault.TheVariants.{Refused, Memory}
-use Rattle.drawing.specs.declared.fault.DrawRefusal.{DrawRefusal}
-use Rattle.drawing.specs.declared.fault.DrawRefusal.TheVariants.{Roster, Rounds}
+use Rattle.drawing.specs.declared.fault.DrawFault.{DrawFault}
+use Rattle.drawing.specs.declared.fault.DrawFault.TheVariants as fault
 
 -- the roster: how many seats, how many of them Byzantine, the majority, and how many Byzantine seats it bears
 unfoldable pub roster_line : ℕ → ℕ → List ℕ
@@ -47,10 +45,10 @@ abbrev pub report_text : ℕ → ℕ → Ranking → ℕ → List ℕ
 report_text n marks m R = (roster_line n marks ++ round_lines n marks m R) ++ honest_line (honest_led n marks m R) R
 
 -- why there is no report: the beacon does not serve this roster for these rounds, or memory ran out
-abbrev pub NoReport : ℕ → Ranking → ℕ → TextFault DrawRefusal → Type 0
-NoReport n m R (Refused (Roster f)) = ⊥
-NoReport n m R (Refused Rounds) = beacon_fits n m R ≡ false
-NoReport n m R Memory = beacon_fits n m R ≡ true
+abbrev pub NoReport : ℕ → Ranking → ℕ → DrawFault → Type 0
+NoReport n m R (fault.Roster f) = ⊥
+NoReport n m R fault.Rounds = beacon_fits n m R ≡ false
+NoReport n m R fault.Memory = beacon_fits n m R ≡ true
 
 -- a refusal as it is printed
 abbrev pub numbered_line : ℕ → List ℕ → List ℕ

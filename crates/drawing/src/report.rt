@@ -4,7 +4,7 @@ ghost use Rattle.orders.specs.Ranking.{covers};
 ghost use Rattle.drawing.specs.Leaders.{beacon_fits};
 ghost use Rattle.drawing.specs.Report.{roster_line, round_line, honest_line, report_text, NoReport, numbered_line};
 
-use crate::fault::{DrawFault, DrawRefusal};
+use crate::fault::DrawFault;
 use crate::leaders::honest_rounds;
 use crate::words::{seat_words, side_word};
 use anyhow::anyhow;
@@ -67,7 +67,7 @@ pub fn report<B: Beacon>(
     ensures { MatchResult result (λ s. (beacon_fits roster.now.n (B.ranking beacon.now) rounds ≡ true) × (string_bytes s ≡ report_text roster.now.n roster.now.marks (B.ranking beacon.now) rounds)) (λ e. NoReport roster.now.n (B.ranking beacon.now) rounds e) }
 {
     if rounds == 0 || rounds > beacon.last_round() || beacon.seat_count() != roster.seat_count() {
-        return Err(DrawFault::Refused(DrawRefusal::Rounds));
+        return Err(DrawFault::Rounds);
     }
     let mut out = String::new(alloc);
     write_roster(&mut out, roster)?;

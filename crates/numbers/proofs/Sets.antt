@@ -19,7 +19,7 @@ ones_odd h e =
     let u : ones ((h + 1) / 2) ≡ ones (h / 2) = ap ones p in
     omega (arith, s, t, u)
 
-ones_add : (m s : ℕ) → m / 2 ^ s % 2 ≡ 0 → ones (m + 2 ^ s) ≡ ones m + 1
+pub ones_add : (m s : ℕ) → m / 2 ^ s % 2 ≡ 0 → ones (m + 2 ^ s) ≡ ones m + 1
 ones_add m s e =
     let h : ℕ = m / 2 ^ s in
     let r : ℕ = m % 2 ^ s in
@@ -34,7 +34,7 @@ ones_add m s e =
     omega (arith, a, b, o, x, y)
 
 -- a clear bit is set by an addition
-or_bit : (m s : ℕ) → m / 2 ^ s % 2 ≡ 0 → bit_or m (2 ^ s) ≡ m + 2 ^ s
+pub or_bit : (m s : ℕ) → m / 2 ^ s % 2 ≡ 0 → bit_or m (2 ^ s) ≡ m + 2 ^ s
 or_bit m s e =
     let h : ℕ = m / 2 ^ s in
     let r : ℕ = m % 2 ^ s in
@@ -46,11 +46,14 @@ or_bit m s e =
     let c : bit_and (h * 2 ^ s + r) (1 * 2 ^ s + 0) ≡ 0 = b ∙ ap (λ (x : ℕ). x * 2 ^ s + bit_and r 0) z ∙ ap (λ (x : ℕ). 0 * 2 ^ s + x) (and_zero_r r) ∙ omega (arith, zero-mul (2 ^ s)) in
     or_disjoint m (2 ^ s) (sym (ap (λ (x : ℕ). bit_and x (1 * 2 ^ s + 0)) whole ∙ ap (bit_and m) one) ∙ c)
 
+pub ones_or : (m s : ℕ) → m / 2 ^ s % 2 ≡ 0 → ones (bit_or m (2 ^ s)) ≡ ones m + 1
+ones_or m s e = ap ones (or_bit m s e) ∙ ones_add m s e
+
 -- one seat more
 pub one_more : (m s : ℕ) → s < 16 → has_bit m s ≡ false → ones (bit_or m (seat_bit s)) ≡ ones m + 1
 one_more m s lt e =
     let clear : m / 2 ^ s % 2 ≡ 0 = search rules in
-    rw (lt-ltb s 16 lt) (ap ones (or_bit m s clear) ∙ ones_add m s clear)
+    rw (lt-ltb s 16 lt) (ones_or m s clear)
 
 seat_bit_within : (s n : ℕ) → s < n → seat_bit s < 2 ^ n
 seat_bit_within s n h =

@@ -1,9 +1,7 @@
 -- The numbers from k on, and rows and tables made of them.
-use Rattle.std.proofs.Common.{◌≡◌, ℕ, zero, suc, ◌+◌, ◌<◌, ◌≤◌, true, cond, ltb, List, [], ◌∷◌, ◌++◌, map, length, get_or, take, set, sym, refl, ap, ◌∙◌, subst, ⊎_elim, add-one, arith, ext_get_or}
+use Rattle.std.proofs.Common.{◌≡◌, ℕ, zero, suc, ◌+◌, ◌<◌, ◌≤◌, true, cond, ltb, List, [], ◌∷◌, ◌++◌, map, length, get_or, take, set, sym, refl, ap, ◌∙◌, ⊎_elim, add-one, arith, ext_get_or}
 use lib.ListN.{length-map}
 use Rattle.std.specs.List.{flat_map}
-use Rattle.std.specs.Fn.{Mut, Called}
-use Rattle.std.specs.Array.{IsFromFnResultFrom, IsFromFnResult}
 use Rattle.std.proofs.lemmas.List.{get_or-map, take_more_set, map_push, take_all, flat_map_more}
 use Rattle.std.proofs.lemmas.Bool.{lt-ltb, le-ltb, cases_lt}
 use Rattle.orders.specs.Ranking.{Ranking, covers, rank_answer}
@@ -36,22 +34,6 @@ is_map f k n d xs long at =
     let lt : i < n = omega arith in
     let lt2 : i < length (numbers k n) = omega (arith, length_numbers k n) in
     at i lt ∙ ap f (sym (get_or-numbers k n i lt)) ∙ sym (get_or-map f (numbers k n) i 0 d lt2))
-
--- an array made by a closure that answers f k at each k and keeps its captures
-module _ {F : Type 0} (g : Mut F (ℕ × Unit {0}) ℕ) (c : F) (f : ℕ → ℕ) (xs : List ℕ) (says : (k r : ℕ) (d : F) → Called g c (k, tt) r d → (d ≡ c) × (r ≡ f k)) where
-  made_at : (i n k : ℕ) (d : F) → d ≡ c → IsFromFnResultFrom g d xs i n → i ≤ k → k < i + n → get_or xs k 0 ≡ f k
-  made_at i zero k d same made le lt = absurd (omega arith)
-  made_at i (suc n) k d same made le lt =
-      let said = says i made.1 made.0 (subst (λ (e : F). Called g e (i, tt) made.1 made.0) same made.3) in
-      ⊎_elim
-      (λ (q : i < k). made_at (i + 1) n k made.0 said.0 made.4 (omega arith) (omega arith))
-      (λ (q : k ≤ i). let e : k ≡ i = omega arith in rw e (made.2.1 0 ∙ said.1))
-      (cases_lt i k)
-
-pub made_by : {F : Type 0} {g : Mut F (ℕ × Unit {0}) ℕ} {c : F} (f : ℕ → ℕ) (xs : List ℕ) (n : ℕ) → IsFromFnResult g c xs n
-    → ((k r : ℕ) (d : F) → Called g c (k, tt) r d → (d ≡ c) × (r ≡ f k)) → xs ≡ map f (numbers 0 n)
-made_by {F} {g} {c} f xs n made says =
-    is_map f 0 n 0 xs made.long (λ i lt. let z : 0 + i ≡ i = omega arith in rw z (made_at g c f xs says 0 n i c refl made.each (omega arith) (omega arith)))
 
 pub is_row : (n : ℕ) (rank : ℕ → ℕ) (row : List ℕ) → length row ≡ 16 → ((s : ℕ) → s < n → get_or row s 0 ≡ rank s) → ((s : ℕ) → n ≤ s → get_or row s 0 ≡ 0) → row ≡ row_of_sixteen n rank
 is_row n rank row long seats rest =

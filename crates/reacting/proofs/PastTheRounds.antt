@@ -58,13 +58,13 @@ module _ {A : Type 0} (s : Setup) (K : Kind A) (t : Tables A) (i : ℕ) where
       ∙ ap (λ (o : Option ℕ). leave_by s K t i r o (leave_by s K t i r o t)) none
 
   -- a number that is a seat of the bench
-  of_seat : ltb i s.n ≡ true → seat_reacts s K t i ≡ reacts s K t i
+  pub of_seat : ltb i s.n ≡ true → seat_reacts s K t i ≡ reacts s K t i
   of_seat in_bench = ap (λ (b : Bool). cond b (reacts s K t i) t) in_bench
 
   -- a reaction of a seat that, if it votes, votes in one of the rounds
-  pub in_rounds : ltb i s.n ≡ true → ((seat_at t i).phase ≡ Voting → (seat_at t i).round ≤ s.rounds) → seat_reacts s K t i ≡ react s K t i
+  pub in_rounds : ((seat_at t i).phase ≡ Voting → (seat_at t i).round ≤ s.rounds) → reacts s K t i ≡ react s K t i
   unfolding reacts react
-  in_rounds in_bench within = of_seat in_bench ∙ go (seat_at t i).phase within
+  in_rounds within = go (seat_at t i).phase within
     where
       go : (x : Phase) → (x ≡ Voting → (seat_at t i).round ≤ s.rounds) → reacted_as s K t i x ≡ react_as s K t i x
       go Waiting f = refl
@@ -72,9 +72,9 @@ module _ {A : Type 0} (s : Setup) (K : Kind A) (t : Tables A) (i : ℕ) where
       go Resting f = refl
 
   -- a reaction on tables that fit
-  pub on_fitting : ltb i s.n ≡ true → 1 ≤ s.quorum → length t.received ≤ block_rows s * s.n → seat_reacts s K t i ≡ react s K t i
+  pub on_fitting : 1 ≤ s.quorum → length t.received ≤ block_rows s * s.n → reacts s K t i ≡ react s K t i
   unfolding reacts react
-  on_fitting in_bench some fit = of_seat in_bench ∙ go (seat_at t i).phase
+  on_fitting some fit = go (seat_at t i).phase
     where
       by : (b : Bool) → leb (seat_at t i).round s.rounds ≡ b
           → cond b (react_in s K t i ((seat_at t i).round - 1)) t ≡ react_in s K t i ((seat_at t i).round - 1)
@@ -87,3 +87,7 @@ module _ {A : Type 0} (s : Setup) (K : Kind A) (t : Tables A) (i : ℕ) where
       go Waiting = refl
       go Voting = by (leb (seat_at t i).round s.rounds) refl
       go Resting = refl
+
+  -- .. of a number that is a seat of the bench
+  pub seat_on_fitting : ltb i s.n ≡ true → 1 ≤ s.quorum → length t.received ≤ block_rows s * s.n → seat_reacts s K t i ≡ react s K t i
+  seat_on_fitting in_bench some fit = of_seat in_bench ∙ on_fitting some fit

@@ -1,5 +1,5 @@
 -- A seat whose wait has ended votes only in one of the rounds, so that it reacts as the rules say.
-use Rattle.std.proofs.Common.{◌≡◌, ℕ, ◌<◌, ◌≤◌, ⊎_elim, Bool, true, false, cond, ltb, leb, length, set, length-set, refl, sym, subst, arith}
+use Rattle.std.proofs.Common.{◌≡◌, ℕ, ◌<◌, ◌≤◌, ⊎_elim, Bool, true, false, cond, ltb, leb, length, set, length-set, refl, sym, subst, ◌∙◌, arith}
 use Rattle.std.proofs.lemmas.Bool.{cases_lt, leb-true}
 use Rattle.std.proofs.lemmas.List.{get_or-set_same}
 use Rattle.records.specs.Kind.{Kind}
@@ -11,8 +11,8 @@ use Rattle.rules.specs.Tables.{Tables, no_seat, seat_at}
 use Rattle.rules.specs.HeadChoice.{next_head}
 use Rattle.rules.specs.Seat.{wakes, end_wait}
 use Rattle.tables.proofs.PastTheEnd.{past_end}
-use Rattle.reacting.specs.Parts.{seat_reacts}
-use Rattle.reacting.proofs.PastTheRounds.{in_rounds}
+use Rattle.reacting.specs.Parts.{reacts, seat_reacts}
+use Rattle.reacting.proofs.PastTheRounds.{of_seat, in_rounds}
 
 votes_within : (r R : ℕ) (b : Bool) → leb r R ≡ b → ◌≡◌ {A = Phase} (cond b Voting Resting) Voting → r ≤ R
 votes_within r R true e h = leb-true r R e
@@ -37,6 +37,10 @@ module _ {A : Type 0} (s : Setup) (K : Kind A) (t : Tables A) (i : ℕ) where
       (λ (e : ◌≡◌ {A = Phase} Resting Voting). absurd (cc)))
       (cases_lt i (length t.seats))
 
-  pub woken_reacts : ltb i s.n ≡ true → seat_reacts s K (wakes s K t i) i ≡ end_wait s K t i
+  pub woken_reacts : reacts s K (wakes s K t i) i ≡ end_wait s K t i
   unfolding end_wait
-  woken_reacts in_bench = in_rounds s K (wakes s K t i) i in_bench woken_within
+  woken_reacts = in_rounds s K (wakes s K t i) i woken_within
+
+  -- .. which is a seat of the bench
+  pub woken_seat_reacts : ltb i s.n ≡ true → seat_reacts s K (wakes s K t i) i ≡ end_wait s K t i
+  woken_seat_reacts in_bench = of_seat s K (wakes s K t i) i in_bench ∙ woken_reacts

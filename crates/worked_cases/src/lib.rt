@@ -15,7 +15,7 @@ pub fn worked_cases() -> u8
 
 #[cfg(test)]
 mod tests {
-    use drawing::fault::{DrawFault, DrawRefusal};
+    use drawing::fault::DrawFault;
     use drawing::report::{print_or_refuse, refusal_line, report};
     use drawing::seating::seat_all;
     use orders::wheel::Wheel;
@@ -103,7 +103,7 @@ mod tests {
             Ok(roster) => report(rt.alloc(), &roster, &Wheel::new(n), rounds).or_else(
                 |fault| refusal_line(rt.alloc(), fault),
             ),
-            Err(fault) => refusal_line(rt.alloc(), DrawRefusal::from(fault)),
+            Err(fault) => refusal_line(rt.alloc(), DrawFault::Roster(fault)),
         }
     }
 
@@ -135,7 +135,7 @@ mod tests {
         let roster = seat_all(1, &[])?;
         let text = report(rt.alloc(), &roster, &Wheel::new(1), 1);
         assert!(rt; print_or_refuse(&rt, rt.alloc(), text, "nothing").is_ok());
-        let refused = Err(DrawFault::Refused(DrawRefusal::Rounds));
+        let refused = Err(DrawFault::Rounds);
         assert!(rt; print_or_refuse(&rt, rt.alloc(), refused, "nothing").is_err());
         Ok(())
     }

@@ -1,19 +1,17 @@
-use Rattle.std.proofs.Common.{◌≡◌, ltb, cond, get_or, ap, ◌∙◌, rules, tests}
+use Rattle.std.proofs.Common.{get_or, rules}
 use Rattle.orders.specs.Ranking.{Ranking, rank_answer}
-use Rattle.orders.specs.Rows.{order_row}
 use Rattle.orders.proofs.Orders.{order_same}
-use Rattle.orders.proofs.Rows.{made_by, order_row_at}
+use Rattle.orders.proofs.Rows.{is_row}
 use Rattle.orders.proofs.ranks_of.Goals as goal
 
 pub returns : goal.returns
 returns g c =
     let m : Ranking = g.B.Beacon.ranking c.args.beacon.now in
-    let r = c.args.round in
     let law = g.met.B.Beacon.lawful c.args.beacon.now in
-    let row : c.from_fn.result ≡ order_row m r
-    = made_by (λ s. cond (ltb s m.seats) (rank_answer m r s) 0) c.from_fn.result 16 c.from_fn.ensures.items (λ k x d h. search (rules, tests)) in
+    let inv = c.loop-seat.invariant in
     record {
-      row = row;
-      order = λ p q. order_same m.seats (m.rank r) (λ s. get_or c.from_fn.result s 0)
-          (law.orders r p q) (λ s h. ap (λ (xs : _). get_or xs s 0) row ∙ order_row_at m r s law.sixteen (search rules) h);
+      row = is_row m.seats (rank_answer m c.args.round) c.loop-seat.ranks
+          inv.2 (λ s h. inv.0 s (search rules)) (λ s h. inv.1 s (search rules));
+      order = λ p q. order_same m.seats (m.rank c.args.round) (λ s. get_or c.loop-seat.ranks s 0)
+          (law.orders c.args.round p q) (λ s h. search rules);
     }

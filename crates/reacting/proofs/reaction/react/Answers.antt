@@ -5,7 +5,7 @@ use Rattle.rules.specs.Tables.{seat_at}
 use Rattle.rules.specs.Seat.{react_in}
 use Rattle.tables.specs.View.{view, setup_of}
 use Rattle.reacting.proofs.PartsJoined.{voted_is, still_is}
-use Rattle.reacting.proofs.PastTheRounds.{on_fitting}
+use Rattle.reacting.proofs.PastTheRounds.{seat_on_fitting}
 use Rattle.reacting.proofs.reaction.react.Goals as goal
 use Rattle.reacting.proofs.reaction.react.Goals.{else-seat-terms-via-then-seat-terms+then-eq+else-row-terms, else-seat-terms-via-then-seat-terms+else-eq, else-seat-terms-via-else-seat-terms}
 
@@ -20,7 +20,7 @@ returns-then-row-terms g c =
     let by_parts = c.react_in.ensures.is ∙ ap (react_in s K t i) past ∙ voted_is s K t i (search rules) votes (search rules) in
     record {
       is = by_parts;
-      by_rules = λ in_bench fit. by_parts ∙ on_fitting s K t i (lt-ltb i s.n in_bench) c.args.terms.quorum_some fit;
+      by_rules = λ in_bench fit. by_parts ∙ seat_on_fitting s K t i (lt-ltb i s.n in_bench) c.args.terms.quorum_some fit;
       same = c.react_in.ensures.same;
     }
 
@@ -37,6 +37,6 @@ returns-else-seat-terms g c =
     ]) in
     record {
       is = still;
-      by_rules = λ in_bench fit. still ∙ on_fitting s K t i (lt-ltb i s.n in_bench) c.args.terms.quorum_some fit;
+      by_rules = λ in_bench fit. still ∙ seat_on_fitting s K t i (lt-ltb i s.n in_bench) c.args.terms.quorum_some fit;
       same = search rules;
     }
